@@ -2,19 +2,17 @@
 use mathlib.Core.Path.{_≡_, refl, sym, ap, subst, _∙_}
 use mathlib.Core.Logic.{_⊎_, inl, inr}
 use mathlib.Core.List.{List}
-use mathlib.Core.Bool.{Bool, true, false, cond, not, Bool·beq, _&&_}
+use mathlib.Core.Bool.{Bool, not}
 use Prim.Native.Nat.{ℕ, zero, suc, _+_, _-_, _*_, _/_, _%_, _^_, _<_, _≤_}
 use native.Mathlib.Omega.{arith}
 use lib.Dec.{eqb}
 use lib.ListN.{length}
 use Rattle.std.proofs.shelf.Bits.{mod-pow-add, field-of, mod-below, pow-pos}
 use Rattle.std.proofs.shelf.Tests.{cases-eq, cases-lt}
-use Rattle.aig.specs.Nets.{flip, net-value}
+use Rattle.aig.specs.Nets.{flip}
 use Rattle.aig.specs.Values.{bit, value-by, vertex-value, value}
 use Rattle.aig.specs.Invariant.{Reads-earlier}
 use Rattle.aig.specs.declared.vertex.Vertex.{Vertex}
-use Rattle.aig.specs.Algebras.{booleans}
-use Rattle.aig.proofs.Nets.{value-twice}
 use Rattle.aig.proofs.Valued.{by-zero, by-input, by-gate, value-obeys, value-only}
 
 mod-even : (x j : ℕ) → x % 2 ^ (j + 1) % 2 ≡ x % 2
@@ -41,21 +39,12 @@ pub value-low : (n : ℕ) (t : List Vertex) → Reads-earlier n t → (code v : 
 value-low n t early code v h = value-only n t early code (vertex-value n t (code % 2 ^ n))
     (λ x l. value-obeys n t early (code % 2 ^ n) x l ∙ by-low n t code (vertex-value n t (code % 2 ^ n)) x) v h
 
--- so a net and a vertex that agree under the codes below 2 ^ n agree under each
-pub agree-all : (n : ℕ) (t : List Vertex) → Reads-earlier n t → (keep gone : ℕ) → keep / 2 < length t → gone < length t
-    → ((code : ℕ) → code < 2 ^ n → value n t keep code ≡ vertex-value n t code gone) → (code : ℕ) → value n t keep code ≡ vertex-value n t code gone
+pub net-low : (n : ℕ) (t : List Vertex) → Reads-earlier n t → (x : ℕ) → x / 2 < length t → (code : ℕ) → value n t x code ≡ value n t x (code % 2 ^ n)
 unfolding value
-agree-all n t early keep gone hk hg f code =
-    ap (λ (b : Bool). flip not (keep % 2) b) (value-low n t early code (keep / 2) hk)
-    ∙ f (code % 2 ^ n) (mod-below code (2 ^ n) (pow-pos n))
-    ∙ sym (value-low n t early code gone hg)
+net-low n t early x h code = ap (flip not (x % 2)) (value-low n t early code (x / 2) h)
 
-pub value-even : (n : ℕ) (t : List Vertex) (v code : ℕ) → value n t (2 * v) code ≡ vertex-value n t code v
-unfolding value
-value-even n t v code = value-twice booleans (vertex-value n t code) v
-
-pub same-bool : (x y : Bool) → not (Bool·beq x y) ≡ false → x ≡ y
-same-bool true true e = refl
-same-bool true false e = e
-same-bool false true e = sym e
-same-bool false false e = refl
+-- so two nets that agree under the codes below 2 ^ n agree under each
+pub agree-all : (n : ℕ) (t : List Vertex) → Reads-earlier n t → (x y : ℕ) → x / 2 < length t → y / 2 < length t
+    → ((code : ℕ) → code < 2 ^ n → value n t x code ≡ value n t y code) → (code : ℕ) → value n t x code ≡ value n t y code
+agree-all n t early x y hx hy f code =
+    net-low n t early x hx code ∙ f (code % 2 ^ n) (mod-below code (2 ^ n) (pow-pos n)) ∙ sym (net-low n t early y hy code)

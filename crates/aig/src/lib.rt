@@ -1,6 +1,7 @@
 //! And-inverter graphs with survivors: nets, vertices, the AND, the nine gate kinds, values under input codes, and merging.
 mod cascade;
 mod examples;
+mod first_line;
 mod graph;
 mod net;
 mod pairs;

@@ -52,7 +52,8 @@ impl Refusal {
             Refusal::GateKind => "the gate kind is not 1 to 9",
             Refusal::UnusedOperand => "an operand that the kind does not read is not 0",
             Refusal::CodeTooWide => "the code has a bit beyond the inputs",
-            Refusal::TableLength => "the table is shorter than the inputs and one, or longer than 4096",
+            Refusal::TableLength =>
+                "the table is shorter than the inputs and one, or longer than 4096",
             Refusal::VerticesLeft => "fewer than three vertices are left",
             Refusal::Workspace => "the workspace has fewer words than there are vertices in use",
             Refusal::Memory => "there is no memory for the table",

@@ -12,7 +12,9 @@ impl Session {
     pub fn new(heap: Global) -> Session
         ensures { λ r. ⌜ Unopened r ⌝ }
     {
-        Session { graph: Graph::unopened(heap) }
+        Session {
+            graph: Graph::unopened(heap),
+        }
     }
 
     /// Opens the session, anew where it was open, with so many inputs and a table of so many places. All memory that the

@@ -1,5 +1,5 @@
 use Rattle.aig.specs.Pairs.{at}
-use Rattle.aig.proofs.pairs.matching.Needs as need
+use Rattle.aig.proofs.first_line.matching.Needs as need
 
 pub returns-in-Some : need.returns-in-Some
 returns-in-Some c = let e = c .in-Some .ensures tt in at _ (record { after = e .0; inside = e .1; stands = e .2 }) (e .3) (e .4)

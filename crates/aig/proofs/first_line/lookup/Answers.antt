@@ -13,7 +13,7 @@ use Rattle.aig.specs.declared.vertex.Vertex.{Vertex}
 use Rattle.aig.specs.Invariant.{Proper}
 use Rattle.aig.specs.Pairs.{zero-first, one-first, same, opposed, Absent, Present, Known, Unknown, folds, found}
 use Rattle.aig.proofs.Nets.{carried-one, proper-left}
-use Rattle.aig.proofs.pairs.lookup.Needs as need
+use Rattle.aig.proofs.first_line.lookup.Needs as need
 
 pub returns-in-0-rest : need.returns-in-0-rest
 returns-in-0-rest c = folds _ (zero-first (search needs))
