@@ -1,0 +1,11 @@
+//! Work lists: bags of waiting items, in slots that the caller lends at each call.
+//!
+//! [`list`] has the trait and what it promises, [`heap`] the list that takes the least item, [`ring`] the list
+//! that takes the oldest, [`items`] the two item types, and [`passing`] code over any work list.
+
+pub mod heap;
+pub mod items;
+pub mod list;
+pub mod passing;
+pub mod ring;
+mod sift;
