@@ -6,3 +6,4 @@ pub mod Circles
 pub mod Ties
 pub mod Repeating
 pub mod Ranking
+pub mod Passages

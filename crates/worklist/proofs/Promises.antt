@@ -99,7 +99,7 @@ module _ {X : Type 0} where
     least-others : (xs : List X) (x : X) (ys : List X) → TookLeast R xs (Some x) ys → No-lower R x ys
     least-others xs x ys h = λ o. all-shuffled (λ y. above o x y ≡ false) xs (x ∷ ys) (h .0) (h .1 o) .1
 
-    least-first : (room : ℕ) (calls : List (Call X)) (xs : List X) → Run Put (TookLeast R) room calls xs → Least-first R calls xs
+    pub least-first : (room : ℕ) (calls : List (Call X)) (xs : List X) → Run Put (TookLeast R) room calls xs → Least-first R calls xs
     least-first room = each-take Put (TookLeast R) put-itself took-least (No-lower R) least-others
 
     pub heap-put : (room : ℕ) (xs : List X) (x : X) (r : Bool) (ys : List X) → Put room xs x r ys → Promised Put (TookLeast R) (Least-first R) room xs (put x r) ys
@@ -132,7 +132,7 @@ module _ {X : Type 0} where
   took-oldest xs None ys h = h
   took-oldest xs (Some x) ys h = shuffled-is _ _ (sym h)
 
-  in-order : (room : ℕ) (calls : List (Call X)) (xs : List X) → Run Queued Oldest room calls xs → First-in-first-out calls xs
+  pub in-order : (room : ℕ) (calls : List (Call X)) (xs : List X) → Run Queued Oldest room calls xs → First-in-first-out calls xs
   in-order room _ _ started = refl
   in-order room _ _ (puts {calls} {xs} {ys} x true run h) =
       reverse-append (x ∷ []) (added calls) ∙ ap (λ l. l ++ x ∷ []) (in-order room calls xs run) ∙ append-assoc (reverse (gone calls)) xs (x ∷ []) ∙ ap (λ l. reverse (gone calls) ++ l) (sym (h .1))

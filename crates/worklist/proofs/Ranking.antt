@@ -6,15 +6,19 @@ use mathlib.Core.List.{List, [], _∷_}
 use Prim.Native.Nat.{ℕ, _<_}
 use native.Mathlib.Omega.{arith}
 use Rattle.std.specs.Keys.{Total, unsigned, ranks}
-use Rattle.std.specs.Orderings.{isLt, thenBy, Ranked}
+use Rattle.std.specs.Orderings.{isLt, isGt, thenBy, Ranked}
+use Rattle.std.specs.shelf.Lookups.{Exact}
 use Rattle.std.specs.declared.cmp.Ordering.{Ordering}
 use Rattle.std.specs.declared.cmp.Ordering.the-variants.{Less, Equal, Greater}
 use Rattle.std.specs.declared.option.Option.{Option}
 use Rattle.std.specs.declared.option.Option.the-variants.{Some, None}
+use Rattle.worklist.specs.Bags.{Put}
+use Rattle.worklist.specs.Laws.{Repeats}
 use Rattle.worklist.specs.Orders.{Least, TookLeast}
 use Rattle.worklist.specs.Items.{Below, Before, Earlier, Foremost, TookForemost, Total-order, Ordered, ByPropagation, ByResubstitution, propagations, resubstitutions}
 use Rattle.worklist.specs.declared.items.Propagation.{Propagation}
 use Rattle.worklist.specs.declared.items.Resubstitution.{Resubstitution}
+use Rattle.worklist.proofs.Repeating.{heaps}
 
 -- ---- numbers in turn
 
@@ -98,6 +102,17 @@ module _ {X : Type 0} {R : X → X → Ordering → Type 0} (o : Total R) (B : X
   pub foremost : (xs : List X) (r : Option X) (ys : List X) → TookLeast R xs r ys → TookForemost B xs r ys
   foremost xs None ys h = h
   foremost xs (Some x) ys h = (h .0, all-after x xs (h .1 o))
+
+  tied : (x y : X) (k : Ordering) → Ranked k (B x y) (x ≡ y) (B y x) → k ≡ Equal → x ≡ y
+  tied x y Less h e = absurd (true≢false (ap isLt e))
+  tied x y Equal h e = h
+  tied x y Greater h e = absurd (true≢false (ap isGt e))
+
+  exact : Exact o
+  exact x y e = tied x y (o .cmp x y) (is x y) e
+
+  pub repeat : Repeats Put (TookLeast R)
+  repeat = heaps R o exact
 
   ordered : ((x : X) → B x x → ⊥) → ((x y z : X) → B x y → B y z → B x z) → Ordered R B
   ordered irreflexive transitive = record {

@@ -1,11 +1,14 @@
 //! The two kinds of items that wait, and how they rank: by their fields in turn.
 
 ghost use mathlib.Core.Path.{_≡_};
-ghost use lib.ListN.{length, drop as behind};
+ghost use lib.ListN.{length};
 ghost use Rattle.std.specs.declared.option.Option.the-variants.{None};
 ghost use Rattle.worklist.specs.Bags.{Put};
 ghost use Rattle.worklist.specs.Calls.{Promised, take};
 ghost use Rattle.worklist.specs.Heaps.{heap-bag, heap-sound};
+ghost use Rattle.worklist.specs.Laws.{Repeats};
+ghost use Rattle.worklist.specs.Mounds.{Freed};
+ghost use Rattle.worklist.specs.Orders.{TookLeast};
 ghost use Rattle.worklist.specs.Items.{ByPropagation, ByResubstitution, Before, Earlier, TookForemost, Foremost-first, Ordered};
 use super::heap::Heap;
 use super::heap::HeapWorkList;
@@ -34,7 +37,7 @@ pub fn next_propagation(heap: &mut Heap, slots: &mut [Propagation]) -> Option<Pr
     ensures keeps { λ _. ⌜ heap-sound ByPropagation (now (heap .exit)) (now (slots .exit)) ⌝ }
     ensures takes { λ r. ⌜ TookForemost Before (heap-bag (now (heap .entry)) (now (slots .entry))) r (heap-bag (now (heap .exit)) (now (slots .exit))) ⌝ }
     ensures rests { λ r. ⌜ (r ≡ None → (now (heap .exit) ≡ now (heap .entry)) × (now (slots .exit) ≡ now (slots .entry))) ⌝ }
-    ensures clears { λ _. ⌜ behind (now (heap .entry) .count) (now (slots .exit)) ≡ behind (now (heap .entry) .count) (now (slots .entry)) ⌝ }
+    ensures clears { λ r. ⌜ Freed (now (heap .entry) .count) (now (slots .entry)) r (now (slots .exit)) ⌝ }
     ensures promise { λ r. ⌜ Promised Put (TookForemost Before) (Foremost-first Before) (length (now (slots .entry))) (heap-bag (now (heap .entry)) (now (slots .entry))) (take r) (heap-bag (now (heap .exit)) (now (slots .exit))) ⌝ }
 {
     heap.take(slots)
@@ -46,7 +49,7 @@ pub fn next_resubstitution(heap: &mut Heap, slots: &mut [Resubstitution]) -> Opt
     ensures keeps { λ _. ⌜ heap-sound ByResubstitution (now (heap .exit)) (now (slots .exit)) ⌝ }
     ensures takes { λ r. ⌜ TookForemost Earlier (heap-bag (now (heap .entry)) (now (slots .entry))) r (heap-bag (now (heap .exit)) (now (slots .exit))) ⌝ }
     ensures rests { λ r. ⌜ (r ≡ None → (now (heap .exit) ≡ now (heap .entry)) × (now (slots .exit) ≡ now (slots .entry))) ⌝ }
-    ensures clears { λ _. ⌜ behind (now (heap .entry) .count) (now (slots .exit)) ≡ behind (now (heap .entry) .count) (now (slots .entry)) ⌝ }
+    ensures clears { λ r. ⌜ Freed (now (heap .entry) .count) (now (slots .entry)) r (now (slots .exit)) ⌝ }
     ensures promise { λ r. ⌜ Promised Put (TookForemost Earlier) (Foremost-first Earlier) (length (now (slots .entry))) (heap-bag (now (heap .entry)) (now (slots .entry))) (take r) (heap-bag (now (heap .exit)) (now (slots .exit))) ⌝ }
 {
     heap.take(slots)
@@ -56,4 +59,10 @@ pub fn next_resubstitution(heap: &mut Heap, slots: &mut [Resubstitution]) -> Opt
 pub fn items_ordered()
     ensures propagations { λ _. ⌜ Ordered ByPropagation Before ⌝ }
     ensures resubstitutions { λ _. ⌜ Ordered ByResubstitution Earlier ⌝ }
+{}
+
+/// Two heaps of either item type that are asked alike answer alike.
+pub fn item_heaps_repeat()
+    ensures propagations { λ _. ⌜ Repeats Put (TookLeast ByPropagation) ⌝ }
+    ensures resubstitutions { λ _. ⌜ Repeats Put (TookLeast ByResubstitution) ⌝ }
 {}

@@ -12,7 +12,7 @@ ghost use lib.ListN.{length};
 ghost use Rattle.std.specs.declared.option.Option.{Option};
 ghost use Rattle.std.specs.declared.option.Option.the-variants.{None};
 ghost use Rattle.worklist.specs.Bags.{Put, Took};
-ghost use Rattle.worklist.specs.Calls.{Call, Promised, put, take};
+ghost use Rattle.worklist.specs.Calls.{Call, Run, Promised, put, take};
 
 /// A bag of waiting items of type `T`.
 pub trait WorkList<T>: Sized {
@@ -34,8 +34,10 @@ pub trait WorkList<T>: Sized {
     /// Which slots an accepted put writes: the list and the slots before, the item, the slots after.
     ghost stores: { Self → List T → T → List T → Type 0 };
 
-    /// Which slots a take writes: the list and the slots before, the slots after.
-    ghost clears: { Self → List T → List T → Type 0 };
+    /// Which slots a take writes: the list and the slots before, the answer, the slots after.
+    ghost clears: { Self → List T → Option T → List T → Type 0 };
+
+    law ruled: { (room : ℕ) (calls : List (Call T)) (waiting : List T) → Run joins leaves room calls waiting → rule calls waiting };
 
     law bounded: { (s : Self) (slots : List T) → sound s slots → length (bag s slots) ≤ length slots };
 
@@ -64,6 +66,6 @@ pub trait WorkList<T>: Sized {
         ensures takes { λ r. ⌜ Took (bag (now (self .entry)) (now (slots .entry))) r (bag (now (self .exit)) (now (slots .exit))) ⌝ }
         ensures leaves { λ r. ⌜ leaves (bag (now (self .entry)) (now (slots .entry))) r (bag (now (self .exit)) (now (slots .exit))) ⌝ }
         ensures rests { λ r. ⌜ (r ≡ None → (now (self .exit) ≡ now (self .entry)) × (now (slots .exit) ≡ now (slots .entry))) ⌝ }
-        ensures clears { λ _. ⌜ clears (now (self .entry)) (now (slots .entry)) (now (slots .exit)) ⌝ }
+        ensures clears { λ r. ⌜ clears (now (self .entry)) (now (slots .entry)) r (now (slots .exit)) ⌝ }
         ensures promise { λ r. ⌜ Promised joins leaves rule (length (now (slots .entry))) (bag (now (self .entry)) (now (slots .entry))) (take r) (bag (now (self .exit)) (now (slots .exit))) ⌝ };
 }

@@ -29,7 +29,7 @@ pub impl<T: Copy> WorkList<T> for Ring as RingWorkList {
 
     ghost stores = { λ r slots item after. after ≡ set slots (behind (r .first) (r .count) (length slots)) item };
 
-    ghost clears = { λ r slots after. after ≡ slots };
+    ghost clears = { λ r slots answer after. after ≡ slots };
 
     fn start() -> Ring {
         Ring { first: 0, count: 0 }
