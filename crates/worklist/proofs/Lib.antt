@@ -7,3 +7,4 @@ pub mod Ties
 pub mod Repeating
 pub mod Ranking
 pub mod Passages
+pub mod Examples
