@@ -7,4 +7,5 @@ pub mod Ties
 pub mod Repeating
 pub mod Ranking
 pub mod Passages
+pub mod Orderly
 pub mod Examples

@@ -13,8 +13,9 @@ use Rattle.std.specs.declared.cmp.Ordering.the-variants.{Less, Equal, Greater}
 use Rattle.std.specs.declared.option.Option.{Option}
 use Rattle.std.specs.declared.option.Option.the-variants.{Some, None}
 use Rattle.worklist.specs.Bags.{Put}
-use Rattle.worklist.specs.Laws.{Repeats}
-use Rattle.worklist.specs.Orders.{Least, TookLeast}
+use Rattle.worklist.specs.Calls.{Call, put, take}
+use Rattle.worklist.specs.Laws.{Each-take, Repeats}
+use Rattle.worklist.specs.Orders.{Least, No-lower, TookLeast}
 use Rattle.worklist.specs.Items.{Below, Before, Earlier, Foremost, TookForemost, Total-order, Ordered, ByPropagation, ByResubstitution, propagations, resubstitutions}
 use Rattle.worklist.specs.declared.items.Propagation.{Propagation}
 use Rattle.worklist.specs.declared.items.Resubstitution.{Resubstitution}
@@ -94,6 +95,12 @@ at-most : {X : Type 0} (B : X → X → Type 0) (x y : X) → (y ≡ x) ⊎ B x 
 at-most B x y (inl e) = inl (sym e)
 at-most B x y (inr b) = inr b
 
+each-weaker : {X : Type 0} (F G : X → List X → Type 0) → ((x : X) (xs : List X) → F x xs → G x xs) → (calls : List (Call X)) → Each-take F calls → Each-take G calls
+each-weaker F G f [] h = tt
+each-weaker F G f (put x r ∷ calls) h = each-weaker F G f calls h
+each-weaker F G f (take None ∷ calls) h = each-weaker F G f calls h
+each-weaker F G f (take (Some x) ∷ calls) h = ((h .0 .0, h .0 .1, f x (h .0 .0) (h .0 .2)), each-weaker F G f calls (h .1))
+
 module _ {X : Type 0} {R : X → X → Ordering → Type 0} (o : Total R) (B : X → X → Type 0) (is : (x y : X) → Ranked (o .cmp x y) (B x y) (x ≡ y) (B y x)) where
   all-after : (x : X) (xs : List X) → Least o x xs → Foremost B x xs
   all-after x [] h = tt
@@ -118,6 +125,7 @@ module _ {X : Type 0} {R : X → X → Ordering → Type 0} (o : Total R) (B : X
   ordered irreflexive transitive = record {
     total = record { never-itself = irreflexive; onward = transitive; either = λ x y. which (B x y) (x ≡ y) (B y x) (o .cmp x y) (is x y) };
     compares = λ x y r h. subst (λ k. Ranked k (B x y) (x ≡ y) (B y x)) (sym (o .says x y r h)) (is x y);
+    leads = λ calls waiting h. each-weaker (No-lower R) (Foremost B) (λ x xs low. all-after x xs (low o)) calls h;
   }
 
 pub propagations-ordered : Ordered ByPropagation Before

@@ -12,7 +12,7 @@ use Rattle.std.specs.declared.option.Option.{Option}
 use Rattle.std.specs.declared.option.Option.the-variants.{Some, None}
 use Rattle.worklist.specs.Bags.{Took}
 use Rattle.worklist.specs.Calls.{Call}
-use Rattle.worklist.specs.Laws.{Each-take}
+use Rattle.worklist.specs.Laws.{Each-take, Least-first}
 use Rattle.worklist.specs.declared.items.Propagation.{Propagation}
 use Rattle.worklist.specs.declared.items.Resubstitution.{Resubstitution}
 
@@ -69,7 +69,8 @@ resubstitutions = on (λ (p : Resubstitution). (p .size, (p .side, p .serial))) 
 abbrev pub Compares : {X : Type 0} → (X → X → Ordering → Type 0) → (X → X → Type 0) → Type 0
 Compares {X} R B = (x y : X) (r : Ordering) → R x y r → Ranked r (B x y) (x ≡ y) (B y x)
 
--- the order of an item type: B is total, and is what is compared by
+-- the order of an item type: B is total, and is what is compared by and what a heap takes its items by
 pub record Ordered {X : Type 0} (R : X → X → Ordering → Type 0) (B : X → X → Type 0) : Type 0 where
   pub total : Total-order B
   pub compares : Compares R B
+  pub leads : (calls : List (Call X)) (waiting : List X) → Least-first R calls waiting → Foremost-first B calls waiting
