@@ -17,9 +17,10 @@ use worklist::items::PropagationOrd;
 use worklist::items::PropagationPartialEq;
 use worklist::items::PropagationPartialOrd;
 use worklist::list::WorkList;
-use worklist::passing::pass;
 use worklist::ring::Ring;
 use worklist::ring::RingWorkList;
+use worklist::through::through_heap;
+use worklist::through::through_ring;
 
 const NOTHING: Propagation = Propagation {
     size: 0,
@@ -116,7 +117,7 @@ fn descents() -> usize {
     for item in items.iter_mut() {
         *item = numbers.item();
     }
-    pass::<Propagation, Heap>(&mut slots, &mut items);
+    through_heap(&mut slots, &mut items);
     let mut found = 0usize;
     for pair in items.windows(2) {
         if pair[1] < pair[0] {
@@ -135,7 +136,7 @@ fn displaced() -> usize {
         *item = numbers.item();
     }
     let before = items;
-    pass::<Propagation, Ring>(&mut slots, &mut items);
+    through_ring(&mut slots, &mut items);
     let mut found = 0usize;
     for (a, b) in before.iter().zip(items.iter()) {
         if *a != *b {
