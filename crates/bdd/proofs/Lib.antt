@@ -1,0 +1,10 @@
+pub mod Values
+pub mod Joins
+pub mod Canon
+pub mod Chains
+pub mod Growth
+pub mod Pigeons
+pub mod Tables
+pub mod Counting
+pub mod Marks
+pub mod Marked

@@ -1,0 +1,5 @@
+use Rattle.bdd.proofs.Counting.{fitting}
+use Rattle.bdd.proofs.laws.nodes_are_counted.Needs as need
+
+pub returns : need.returns
+returns c = fitting

@@ -1,0 +1,9 @@
+pub mod Diagram
+pub mod Parts
+pub mod Steps
+pub mod Index
+pub mod Sound
+pub mod Size
+pub mod Laws
+pub mod Marking
+pub mod Calls
