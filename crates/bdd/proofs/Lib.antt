@@ -3,6 +3,7 @@ pub mod Joins
 pub mod Canon
 pub mod Chains
 pub mod Growth
+pub mod Variables
 pub mod Pigeons
 pub mod Tables
 pub mod Counting

@@ -8,9 +8,12 @@ ghost use Rattle.bdd.specs.Diagram.{node, top as firstVar, Fits};
 ghost use Rattle.bdd.specs.Index.{Lacks};
 ghost use Rattle.bdd.specs.Steps.{Placed, Made, Short};
 ghost use Rattle.bdd.specs.Sound.{Sound, Kept, Full, nodesOf};
+ghost use Rattle.bdd.specs.Calls.{Built, Refused};
 
 use super::Table;
 use crate::edges::Edge;
+use crate::edges::FALSE;
+use crate::edges::TRUE;
 use crate::edges::inverse;
 
 impl Table {
@@ -53,5 +56,18 @@ impl Table {
             return None;
         };
         Some(inverse(e))
+    }
+
+    /// The edge of the function that is the variable `v`. None only where it and the functions held have together more
+    /// nodes than the table has room for; the table is then as it was.
+    pub fn variable(&mut self, v: u16) -> Option<Edge>
+        requires sound { ⌜ Sound (now self) ⌝ }
+        requires bounded { ⌜ v < 4096 ⌝ }
+        ensures { λ r. ⌜ BySome r (Refused (now (self .entry)) (now (self .exit)) (λ ρ. ρ v)) (λ e. Built (now (self .entry)) (now (self .exit)) (λ ρ. ρ v) e) ⌝ }
+    {
+        let Some(e) = self.mk(v, TRUE, FALSE) else {
+            return None;
+        };
+        Some(e)
     }
 }
