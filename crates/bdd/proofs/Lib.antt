@@ -9,3 +9,5 @@ pub mod Tables
 pub mod Counting
 pub mod Marks
 pub mod Marked
+pub mod Walks
+pub mod Reading

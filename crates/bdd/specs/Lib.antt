@@ -7,3 +7,5 @@ pub mod Size
 pub mod Laws
 pub mod Marking
 pub mod Calls
+pub mod Codes
+pub mod Reading

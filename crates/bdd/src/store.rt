@@ -21,6 +21,8 @@ mod cut;
 pub mod index;
 pub mod marking;
 pub mod nodes;
+mod separate;
+mod topmost;
 mod walk;
 
 /// A bounded table of nodes.

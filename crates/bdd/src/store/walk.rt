@@ -12,7 +12,7 @@ use crate::edges::Edge;
 use crate::edges::inverse;
 
 // What stands for the variable of a constant: it comes after every variable.
-const NO_VAR: u16 = 4096;
+pub(super) const NO_VAR: u16 = 4096;
 
 impl Table {
     // The variable that the edge's function looks at first, or 4096 at a constant.
