@@ -64,8 +64,8 @@ value-upd ns ρ v b (suc k) (suc i) good h lt =
     let ll = f .low-later in
     branch-at (upd ρ v b) ρ (value k ns (upd ρ v b)) n (upd-other ρ v b (n .var) (omega arith))
     ∙ branch-like ρ (value k ns (upd ρ v b)) (value k ns ρ) n
-      (value-upd ns ρ v b k (n .high / 2) good (omega arith) (omega arith))
-      (value-upd ns ρ v b k (n .low / 2) good (omega arith) (omega arith))
+    (value-upd ns ρ v b k (n .high / 2) good (omega arith) (omega arith))
+    (value-upd ns ρ v b k (n .low / 2) good (omega arith) (omega arith))
 
 pub eval-upd : (ns : List Node) (ρ : ℕ → Bool) (v : ℕ) (b : Bool) (e : ℕ) → Good ns → e / 2 ≤ length ns → v < top ns e → eval ns (upd ρ v b) e ≡ eval ns ρ e
 unfolding eval
@@ -104,7 +104,7 @@ module _ (ns : List Node) (good : Good ns) where
       let hd = ch .deeper at in
       let ld = cl .deeper at in
       good .fits i near .differ (turn-inj e e (n .high) (n .low) refl
-        (ih (turn e (n .high)) (turn e (n .low)) (omega arith) (omega arith) (ch .inside) (cl .inside) (λ ρ. sh ρ ∙ sym (sl ρ))))
+      (ih (turn e (n .high)) (turn e (n .low)) (omega arith) (omega arith) (ch .inside) (cl .inside) (λ ρ. sh ρ ∙ sym (sl ρ))))
 
   both-look : (m e f v : ℕ) → Canonical-below m → e / 2 < suc m → f / 2 < suc m → e / 2 ≤ length ns → f / 2 ≤ length ns → top ns e ≡ v → top ns f ≡ v → v < 4096 → inverted e ≡ inverted f → Same ns e ns f → e / 2 ≡ f / 2
   unfolding Canonical-below
@@ -147,16 +147,16 @@ module _ (ns : List Node) (good : Good ns) where
       let par = inverted-parity e f inv in
       let eb = var-bound ns (e / 2) good inside in
       let half : e / 2 ≡ f / 2 = ⊎-elim
-        (λ eq. ⊎-elim
-          (λ top-out. constants e inside (omega arith) ∙ sym (constants f insidef (omega arith)))
-          (⊎-elim
-            (λ lt. both-look m e f (top ns e) (canonical m) em fm inside insidef refl (sym eq) lt inv same)
-            (λ gt. absurd (omega arith)))
-          (cases-order (top ns e) 4096))
-        (⊎-elim
-          (λ lt. absurd (one-looks m e f (top ns e) (canonical m) em inside insidef refl lt same))
-          (λ gt. absurd (one-looks m f e (top ns f) (canonical m) fm insidef inside refl gt (λ ρ. sym (same ρ)))))
-        (cases-order (top ns e) (top ns f)) in
+      (λ eq. ⊎-elim
+      (λ top-out. constants e inside (omega arith) ∙ sym (constants f insidef (omega arith)))
+      (⊎-elim
+      (λ lt. both-look m e f (top ns e) (canonical m) em fm inside insidef refl (sym eq) lt inv same)
+      (λ gt. absurd (omega arith)))
+      (cases-order (top ns e) 4096))
+      (⊎-elim
+      (λ lt. absurd (one-looks m e f (top ns e) (canonical m) em inside insidef refl lt same))
+      (λ gt. absurd (one-looks m f e (top ns f) (canonical m) fm insidef inside refl gt (λ ρ. sym (same ρ)))))
+      (cases-order (top ns e) (top ns f)) in
       omega arith
 
 -- two edges of a good table with the same values are the same edge

@@ -23,11 +23,11 @@ both-kept ns ms f g r good grown inf ing b =
     record {
       inside = omega arith;
       first = λ v hf hg.
-        let atf = var-kept ns ms (f / 2) grown inf in
-        let atg = var-kept ns ms (g / 2) grown ing in
-        let atr = var-kept ns ms (r / 2) grown (b .inside) in
-        let m = b .first v (omega arith) (omega arith) in
-        omega arith;
+          let atf = var-kept ns ms (f / 2) grown inf in
+          let atg = var-kept ns ms (g / 2) grown ing in
+          let atr = var-kept ns ms (r / 2) grown (b .inside) in
+          let m = b .first v (omega arith) (omega arith) in
+          omega arith;
       value-is = λ ρ. eval-kept ns ms ρ r good grown (b .inside) ∙ b .value-is ρ ∙ sym (ap₂ _&&_ (eval-kept ns ms ρ f good grown inf) (eval-kept ns ms ρ g good grown ing));
     }
 
@@ -36,9 +36,9 @@ both-up ns ms f g r good grown inf ing b =
     record {
       inside = b .inside;
       first = λ v hf hg.
-        let atf = var-kept ns ms (f / 2) grown inf in
-        let atg = var-kept ns ms (g / 2) grown ing in
-        b .first v (omega arith) (omega arith);
+          let atf = var-kept ns ms (f / 2) grown inf in
+          let atg = var-kept ns ms (g / 2) grown ing in
+          b .first v (omega arith) (omega arith);
       value-is = λ ρ. b .value-is ρ ∙ sym (ap₂ _&&_ (eval-kept ns ms ρ f good grown inf) (eval-kept ns ms ρ g good grown ing));
     }
 
@@ -77,76 +77,78 @@ module _ (m : ℕ) (ns : List Node) (next heads : List ℕ) (n : Node) (l : Link
         some = l .some;
         long = let nl = l .long in simp length-append (omega arith);
         head-within = λ c lt. ⊎-elim
-          (λ e. subst (λ x. getD hs x 0 ≤ length ms) (sym e) (omega (arith, here)))
-          (λ ne. let w = l .head-within c lt in omega (arith, other c ne))
-          (cases-eq c b);
+            (λ e. subst (λ x. getD hs x 0 ≤ length ms) (sym e) (omega (arith, here)))
+            (λ ne. let w = l .head-within c lt in omega (arith, other c ne))
+            (cases-eq c b);
         head-same = λ c lt pos. ⊎-elim
-          (λ e.
+            (λ e.
             let at : getD hs c 0 - 1 ≡ length ns = omega (arith, ap (λ x. getD hs x 0) e, here) in
             ap (λ i. bucketOf m (nodeAt ms i)) at ∙ new ∙ sym e)
-          (λ ne.
+            (λ ne.
             let eq = other c ne in
             let w = l .head-within c lt in
             let at : getD hs c 0 - 1 ≡ getD heads c 0 - 1 = omega arith in
             ap (λ i. bucketOf m (nodeAt ms i)) at ∙ old (getD heads c 0 - 1) (omega arith) ∙ l .head-same c lt (omega arith))
-          (cases-eq c b);
+            (cases-eq c b);
         head-past = λ i lt. ⊎-elim
-          (λ lti. subst (λ c. i < getD hs c 0) (sym (old i lti)) (⊎-elim
+            (λ lti. subst (λ c. i < getD hs c 0) (sym (old i lti)) (⊎-elim
             (λ e. subst (λ c. i < getD hs c 0) (sym e) (omega (arith, here)))
             (λ ne. omega (arith, other (bucketOf m (nodeAt ns i)) ne, l .head-past i lti))
             (cases-eq (bucketOf m (nodeAt ns i)) b)))
-          (λ le.
+            (λ le.
             let is : i ≡ length ns = omega arith in
             subst (λ c. i < getD hs c 0) (sym (ap (λ x. bucketOf m (nodeAt ms x)) is ∙ new)) (omega (arith, here)))
-          (cases-lt i (length ns));
+            (cases-lt i (length ns));
         next-back = λ j lt. ⊎-elim
-          (λ ltj. omega (arith, old-next j ltj, l .next-back j ltj))
-          (λ le.
+            (λ ltj. omega (arith, old-next j ltj, l .next-back j ltj))
+            (λ le.
             let is : j ≡ length ns = omega arith in
             omega (arith, ap (λ x. getD nx x 0) is, last-next, l .head-within b within))
-          (cases-lt j (length ns));
+            (cases-lt j (length ns));
         next-same = λ j lt pos. ⊎-elim
-          (λ ltj.
+            (λ ltj.
             let eq = old-next j ltj in
             let back = l .next-back j ltj in
             let at : getD nx j 0 - 1 ≡ getD next j 0 - 1 = omega arith in
             ap (λ i. bucketOf m (nodeAt ms i)) at ∙ old (getD next j 0 - 1) (omega arith) ∙ l .next-same j ltj (omega arith) ∙ sym (old j ltj))
-          (λ le.
+            (λ le.
             let is : j ≡ length ns = omega arith in
             let eq : getD nx j 0 ≡ h = ap (λ x. getD nx x 0) is ∙ last-next in
             let w = l .head-within b within in
             let at : getD nx j 0 - 1 ≡ h - 1 = omega arith in
             ap (λ i. bucketOf m (nodeAt ms i)) at ∙ old (h - 1) (omega arith) ∙ l .head-same b within (omega arith) ∙ sym (ap (λ x. bucketOf m (nodeAt ms x)) is ∙ new))
-          (cases-lt j (length ns));
+            (cases-lt j (length ns));
         next-past = λ i j ij lt same. ⊎-elim
-          (λ ltj.
+            (λ ltj.
             let lti : i < length ns = omega arith in
             omega (arith, old-next j ltj, l .next-past i j ij ltj (sym (old i lti) ∙ same ∙ old j ltj)))
-          (λ le.
+            (λ le.
             let is : j ≡ length ns = omega arith in
             let lti : i < length ns = omega arith in
             let eq : getD nx j 0 ≡ h = ap (λ x. getD nx x 0) is ∙ last-next in
             let at : bucketOf m (nodeAt ns i) ≡ b = sym (old i lti) ∙ same ∙ ap (λ x. bucketOf m (nodeAt ms x)) is ∙ new in
             omega (arith, eq, subst (λ c. i < getD heads c 0) at (l .head-past i lti)))
-          (cases-lt j (length ns));
+            (cases-lt j (length ns));
       }
 
   -- one step along a bucket
   pub chain-head : (b : ℕ) (w : Node) → b ≡ bucketOf m w → b < m
-    → (getD heads b 0 ≤ length ns) × (0 < getD heads b 0 → bucketOf m (nodeAt ns (getD heads b 0 - 1)) ≡ bucketOf m w) × ((k : ℕ) → k < length ns → nodeAt ns k ≡ w → k < getD heads b 0)
+      → (getD heads b 0 ≤ length ns) × (0 < getD heads b 0 → bucketOf m (nodeAt ns (getD heads b 0 - 1)) ≡ bucketOf m w) × ((k : ℕ) → k < length ns → nodeAt ns k ≡ w → k < getD heads b 0)
   chain-head b w is lt = (l .head-within b lt, (λ pos. l .head-same b lt pos ∙ is), (λ k h e. subst (λ c. k < getD heads c 0) (ap (bucketOf m) e ∙ sym is) (l .head-past k h)))
 
   pub chain-next : (at : ℕ) (w : Node) → 0 < at → at ≤ length ns → bucketOf m (nodeAt ns (at - 1)) ≡ bucketOf m w → (nodeAt ns (at - 1) ≡ w → ⊥) → ((k : ℕ) → k < length ns → nodeAt ns k ≡ w → k < at)
-    → (getD next (at - 1) 0 ≤ length ns) × (0 < getD next (at - 1) 0 → bucketOf m (nodeAt ns (getD next (at - 1) 0 - 1)) ≡ bucketOf m w) × ((k : ℕ) → k < length ns → nodeAt ns k ≡ w → k < getD next (at - 1) 0)
+      → (getD next (at - 1) 0 ≤ length ns) × (0 < getD next (at - 1) 0 → bucketOf m (nodeAt ns (getD next (at - 1) 0 - 1)) ≡ bucketOf m w) × ((k : ℕ) → k < length ns → nodeAt ns k ≡ w → k < getD next (at - 1) 0)
   chain-next at w pos within same ne past =
       let j : ℕ = at - 1 in
       let inside : j < length ns = omega arith in
-      let back = l .next-back j inside in
-      (omega arith, (λ p. l .next-same j inside p ∙ same),
+      let back = l .next-back j inside in (
+        omega arith,
+        (λ p. l .next-same j inside p ∙ same),
         (λ k h e.
-          let lt = past k h e in
-          let kj : k < j = ⊎-elim (λ eq. absurd (ne (ap (nodeAt ns) (sym eq) ∙ e))) (λ neq. omega arith) (cases-eq k j) in
-          l .next-past k j kj inside (ap (bucketOf m) e ∙ sym same)))
+            let lt = past k h e in
+            let kj : k < j = ⊎-elim (λ eq. absurd (ne (ap (nodeAt ns) (sym eq) ∙ e))) (λ neq. omega arith) (cases-eq k j) in
+            l .next-past k j kj inside (ap (bucketOf m) e ∙ sym same)),
+      )
 
 -- a table without its last node
 pub good-pop : (ns : List Node) (n : Node) → Good (ns ++ n ∷ []) → Good ns
@@ -156,19 +158,19 @@ good-pop ns n good =
     let long : length ms ≡ length ns + 1 = simp length-append in
     record {
       fits = λ i lt.
-        let f : Fits ms i (nodeAt ns i) = subst (Fits ms i) (g .kept i lt) (good .fits i (omega arith)) in
-        let c : Node = nodeAt ns i in
-        let hb = f .high-back in
-        let lb = f .low-back in
-        record {
-          high-back = hb;
-          low-back = lb;
-          high-later = subst (λ w. c .var < w) (var-kept ns ms (c .high / 2) g (omega arith)) (f .high-later);
-          low-later = subst (λ w. c .var < w) (var-kept ns ms (c .low / 2) g (omega arith)) (f .low-later);
-          straight = f .straight;
-          differ = f .differ;
-          bounded = f .bounded;
-        };
+          let f : Fits ms i (nodeAt ns i) = subst (Fits ms i) (g .kept i lt) (good .fits i (omega arith)) in
+          let c : Node = nodeAt ns i in
+          let hb = f .high-back in
+          let lb = f .low-back in
+          record {
+            high-back = hb;
+            low-back = lb;
+            high-later = subst (λ w. c .var < w) (var-kept ns ms (c .high / 2) g (omega arith)) (f .high-later);
+            low-later = subst (λ w. c .var < w) (var-kept ns ms (c .low / 2) g (omega arith)) (f .low-later);
+            straight = f .straight;
+            differ = f .differ;
+            bounded = f .bounded;
+          };
       apart = λ i j hi hj e. good .apart i j (omega arith) (omega arith) (g .kept i hi ∙ e ∙ sym (g .kept j hj));
     }
 
@@ -192,42 +194,42 @@ linked-pop m ns next heads n x l nl within =
     let x-back : x ≤ L = omega (arith, l .next-back L (omega arith), last-next) in
     -- another bucket does not begin with the last node
     let not-last : (c : ℕ) → c < m → (c ≡ b → ⊥) → getD heads c 0 ≤ L = λ c lt ne. ⊎-elim
-      (λ lt′. omega arith)
-      (λ ge.
-        let w = l .head-within c lt in
-        let at : getD heads c 0 - 1 ≡ L = omega arith in
-        absurd (ne (sym (l .head-same c lt (omega arith)) ∙ ap (λ i. bucketOf m (nodeAt ms i)) at ∙ new)))
-      (cases-lt (getD heads c 0) (L + 1)) in
+    (λ lt′. omega arith)
+    (λ ge.
+    let w = l .head-within c lt in
+    let at : getD heads c 0 - 1 ≡ L = omega arith in
+    absurd (ne (sym (l .head-same c lt (omega arith)) ∙ ap (λ i. bucketOf m (nodeAt ms i)) at ∙ new)))
+    (cases-lt (getD heads c 0) (L + 1)) in
     record {
       wide = simp length-set wide;
       some = l .some;
       long = nl;
       head-within = λ c lt. ⊎-elim
-        (λ e. subst (λ y. getD hs y 0 ≤ L) (sym e) (omega (arith, here)))
-        (λ ne. omega (arith, other c ne, not-last c lt ne))
-        (cases-eq c b);
+          (λ e. subst (λ y. getD hs y 0 ≤ L) (sym e) (omega (arith, here)))
+          (λ ne. omega (arith, other c ne, not-last c lt ne))
+          (cases-eq c b);
       head-same = λ c lt pos. ⊎-elim
-        (λ e.
+          (λ e.
           let eq : getD hs c 0 ≡ x = ap (λ y. getD hs y 0) e ∙ here in
           let at : getD hs c 0 - 1 ≡ getD nx L 0 - 1 = omega arith in
           let in-ns : getD nx L 0 - 1 < L = omega arith in
           ap (λ i. bucketOf m (nodeAt ns i)) at ∙ sym (old (getD nx L 0 - 1) in-ns) ∙ l .next-same L (omega arith) (omega arith) ∙ new ∙ sym e)
-        (λ ne.
+          (λ ne.
           let eq = other c ne in
           let w = not-last c lt ne in
           let at : getD hs c 0 - 1 ≡ getD heads c 0 - 1 = omega arith in
           ap (λ i. bucketOf m (nodeAt ns i)) at ∙ sym (old (getD heads c 0 - 1) (omega arith)) ∙ l .head-same c lt (omega arith))
-        (cases-eq c b);
+          (cases-eq c b);
       head-past = λ i lt. ⊎-elim
-        (λ e. subst (λ c. i < getD hs c 0) (sym e) (omega (arith, here, last-next, l .next-past i L lt (omega arith) (old i lt ∙ e ∙ sym new))))
-        (λ ne. omega (arith, other (bucketOf m (nodeAt ns i)) ne, subst (λ c. i < getD heads c 0) (old i lt) (l .head-past i (omega arith))))
-        (cases-eq (bucketOf m (nodeAt ns i)) b);
+          (λ e. subst (λ c. i < getD hs c 0) (sym e) (omega (arith, here, last-next, l .next-past i L lt (omega arith) (old i lt ∙ e ∙ sym new))))
+          (λ ne. omega (arith, other (bucketOf m (nodeAt ns i)) ne, subst (λ c. i < getD heads c 0) (old i lt) (l .head-past i (omega arith))))
+          (cases-eq (bucketOf m (nodeAt ns i)) b);
       next-back = λ j lt. omega (arith, old-next j lt, l .next-back j (omega arith));
       next-same = λ j lt pos.
-        let eq = old-next j lt in
-        let back = l .next-back j (omega arith) in
-        let at : getD next j 0 - 1 ≡ getD nx j 0 - 1 = omega arith in
-        ap (λ i. bucketOf m (nodeAt ns i)) at ∙ sym (old (getD nx j 0 - 1) (omega arith)) ∙ l .next-same j (omega arith) (omega arith) ∙ old j lt;
+          let eq = old-next j lt in
+          let back = l .next-back j (omega arith) in
+          let at : getD next j 0 - 1 ≡ getD nx j 0 - 1 = omega arith in
+          ap (λ i. bucketOf m (nodeAt ns i)) at ∙ sym (old (getD nx j 0 - 1) (omega arith)) ∙ l .next-same j (omega arith) (omega arith) ∙ old j lt;
       next-past = λ i j ij lt same. omega (arith, old-next j lt, l .next-past i j ij (omega arith) (old i (omega arith) ∙ same ∙ sym (old j lt)));
     }
 

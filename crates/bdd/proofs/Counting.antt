@@ -53,13 +53,13 @@ module _ (ns : List Node) (good : Good ns) (vs : List ℕ) (asc : Ascending vs) 
       let own : In w (f .rest) → ⊥ = λ k. let l = f .later w k in omega arith in
       let even : (b : Bool) → turned (inverted (2 * (i + 1))) b ≡ b = λ b. turned-even (2 * (i + 1)) b (omega arith) in
       let high : (τ : ℕ → Bool) → eval ns (on (f .rest) τ ρ₁) (2 * (i + 1)) ≡ eval ns τ (n .high) = λ τ.
-        eval-child ns (on (f .rest) τ ρ₁) (2 * (i + 1)) i true good half h (on-out (f .rest) τ ρ₁ w own ∙ upd-at (λ _. false) w true)
-        ∙ even (eval ns (on (f .rest) τ ρ₁) (n .high)) ∙ child-on w (n .high) τ ρ₁ f (omega arith) (fits .high-later) in
+      eval-child ns (on (f .rest) τ ρ₁) (2 * (i + 1)) i true good half h (on-out (f .rest) τ ρ₁ w own ∙ upd-at (λ _. false) w true)
+      ∙ even (eval ns (on (f .rest) τ ρ₁) (n .high)) ∙ child-on w (n .high) τ ρ₁ f (omega arith) (fits .high-later) in
       let low : (τ : ℕ → Bool) → eval ns (on (f .rest) τ ρ₀) (2 * (i + 1)) ≡ eval ns τ (n .low) = λ τ.
-        eval-child ns (on (f .rest) τ ρ₀) (2 * (i + 1)) i false good half h (on-out (f .rest) τ ρ₀ w own ∙ upd-at (λ _. false) w false)
-        ∙ even (eval ns (on (f .rest) τ ρ₀) (n .low)) ∙ child-on w (n .low) τ ρ₀ f (omega arith) (fits .low-later) in
+      eval-child ns (on (f .rest) τ ρ₀) (2 * (i + 1)) i false good half h (on-out (f .rest) τ ρ₀ w own ∙ upd-at (λ _. false) w false)
+      ∙ even (eval ns (on (f .rest) τ ρ₀) (n .low)) ∙ child-on w (n .low) τ ρ₀ f (omega arith) (fits .low-later) in
       fits .differ (same-edge ns (n .high) (n .low) good (omega arith) (omega arith)
-        (λ τ. sym (high τ) ∙ table-inj (f .rest) (λ ρ. eval ns ρ (2 * (i + 1))) (λ ρ. eval ns ρ (2 * (i + 1))) ρ₁ ρ₀ τ e ∙ low τ))
+      (λ τ. sym (high τ) ∙ table-inj (f .rest) (λ ρ. eval ns ρ (2 * (i + 1))) (λ ρ. eval ns ρ (2 * (i + 1))) ρ₁ ρ₀ τ e ∙ low τ))
 
   pub depends-own : (i : ℕ) → i < length ns → Depends (tableOf i)
   unfolding Depends tableOf
@@ -79,8 +79,8 @@ module _ (ns : List Node) (good : Good ns) (vs : List ℕ) (asc : Ascending vs) 
       let di = depth-table (after w vs) (λ ρ. eval ns ρ (2 * (i + 1))) (λ _. false) in
       let dj = depth-table (after x vs) (λ ρ. eval ns ρ (2 * (j + 1))) (λ _. false) in
       ⊎-elim (λ q. q)
-        (⊎-elim (λ lt. let l = fewer vs w x asc (vars i hi) (vars j hj) lt in absurd (omega arith)) (λ gt. let l = fewer vs x w asc (vars j hj) (vars i hi) gt in absurd (omega arith)))
-        (cases-order w x)
+      (⊎-elim (λ lt. let l = fewer vs w x asc (vars i hi) (vars j hj) lt in absurd (omega arith)) (λ gt. let l = fewer vs x w asc (vars j hj) (vars i hi) gt in absurd (omega arith)))
+      (cases-order w x)
 
   pub near-own : (i j : ℕ) → i < length ns → j < length ns → Near (tableOf i) (tableOf j) → i ≡ j
   unfolding tableOf
@@ -93,8 +93,8 @@ module _ (ns : List Node) (good : Good ns) (vs : List ℕ) (asc : Ascending vs) 
       let εj : (ℕ → Bool) → Bool = λ ρ. eval ns ρ (2 * (j + 1)) in
       let moved : table (after w vs) εi (λ _. false) ≡ table (after w vs) εj (λ _. false) = e ∙ ap (λ x. table (after x vs) εj (λ _. false)) (sym same-var) in
       let agree : Same ns (2 * (i + 1)) ns (2 * (j + 1)) = λ τ.
-        sym (node-on i τ (λ _. false) hi f) ∙ table-inj (after w vs) εi εj (λ _. false) (λ _. false) τ moved
-        ∙ ap (λ x. εj (on (after x vs) τ (λ _. false))) same-var ∙ node-on j τ (λ _. false) hj g in
+      sym (node-on i τ (λ _. false) hi f) ∙ table-inj (after w vs) εi εj (λ _. false) (λ _. false) τ moved
+      ∙ ap (λ x. εj (on (after x vs) τ (λ _. false))) same-var ∙ node-on j τ (λ _. false) hj g in
       let edges = same-edge ns (2 * (i + 1)) (2 * (j + 1)) good (omega arith) (omega arith) agree in
       omega arith
   near-own i j hi hj (inr e) =
@@ -107,8 +107,8 @@ module _ (ns : List Node) (good : Good ns) (vs : List ℕ) (asc : Ascending vs) 
       let nj : (ℕ → Bool) → Bool = λ ρ. not (εj ρ) in
       let moved : table (after w vs) εi (λ _. false) ≡ table (after w vs) nj (λ _. false) = e ∙ opposite-table (after (nodeAt ns j .var) vs) εj (λ _. false) ∙ ap (λ x. table (after x vs) nj (λ _. false)) (sym same-var) in
       let agree : Same ns (2 * (i + 1)) ns (flip (2 * (j + 1))) = λ τ.
-        sym (node-on i τ (λ _. false) hi f) ∙ table-inj (after w vs) εi nj (λ _. false) (λ _. false) τ moved
-        ∙ ap (λ x. nj (on (after x vs) τ (λ _. false))) same-var ∙ ap not (node-on j τ (λ _. false) hj g) ∙ sym (eval-flip ns τ (2 * (j + 1))) in
+      sym (node-on i τ (λ _. false) hi f) ∙ table-inj (after w vs) εi nj (λ _. false) (λ _. false) τ moved
+      ∙ ap (λ x. nj (on (after x vs) τ (λ _. false))) same-var ∙ ap not (node-on j τ (λ _. false) hj g) ∙ sym (eval-flip ns τ (2 * (j + 1))) in
       let edges = same-edge ns (2 * (i + 1)) (flip (2 * (j + 1))) good (omega arith) (omega (arith, flip-half (2 * (j + 1)))) agree in
       absurd (omega arith)
 
@@ -124,8 +124,8 @@ module _ (ns : List Node) (good : Good ns) (vs : List ℕ) (asc : Ascending vs) 
       let own : tableOf i ≡ table (after w vs) (λ ρ. turned (p .turn) (ψ ρ)) (λ _. false) = ap (λ ε. table (after w vs) ε (λ _. false)) (fun-ext (p .value-is)) in
       let P : Bool → Type 0 = λ b. tableOf i ≡ table (after w vs) (λ ρ. turned b (ψ ρ)) (λ _. false) → Near (tableOf i) s₀ in
       let both : P (p .turn) = elim (p .turn) as P [
-        true ↦ λ q. inr (q ∙ sym (opposite-table (after w vs) ψ (λ _. false)) ∙ ap opposite at)
-      | false ↦ λ q. inl (q ∙ at)
+        | true ↦ λ q. inr (q ∙ sym (opposite-table (after w vs) ψ (λ _. false)) ∙ ap opposite at)
+        | false ↦ λ q. inl (q ∙ at)
       ] in
       both own
 
@@ -153,8 +153,8 @@ held-kept ns os vs i (φ ∷ φs) good grown h (inr k) = inr (held-kept ns os vs
 pub only-conj : (ns : List Node) (vs : List ℕ) (f g : ℕ) → Good ns → Inputs ns vs → f / 2 ≤ length ns → g / 2 ≤ length ns → Only vs (conj ns f g)
 only-conj ns vs f g good vars inf ing ρ ρ′ agree =
     ap₂ _&&_
-      (eval-only ns ρ ρ′ 0 f good (λ i h le. agree (nodeAt ns i .var) (vars i h)) inf (omega arith))
-      (eval-only ns ρ ρ′ 0 g good (λ i h le. agree (nodeAt ns i .var) (vars i h)) ing (omega arith))
+    (eval-only ns ρ ρ′ 0 f good (λ i h le. agree (nodeAt ns i .var) (vars i h)) inf (omega arith))
+    (eval-only ns ρ ρ′ 0 g good (λ i h le. agree (nodeAt ns i .var) (vars i h)) ing (omega arith))
 
 in-or-not : (w : ℕ) (vs : List ℕ) → In w vs ⊎ (In w vs → ⊥)
 in-or-not w [] = inr (λ h. h)
@@ -174,33 +174,33 @@ part-input ns vs φ i good h only p =
     let half : 2 * (i + 1) / 2 ≡ suc i = omega arith in
     let even : (b : Bool) → turned (inverted (2 * (i + 1))) b ≡ b = λ b. turned-even (2 * (i + 1)) b (omega arith) in
     let at : (ρ : ℕ → Bool) (b : Bool) → eval ns (upd ρ w b) (2 * (i + 1)) ≡ eval ns (upd ρ w b) (child n b) = λ ρ b.
-      eval-child ns (upd ρ w b) (2 * (i + 1)) i b good half h (upd-at ρ w b) ∙ even (eval ns (upd ρ w b) (child n b)) in
+    eval-child ns (upd ρ w b) (2 * (i + 1)) i b good half h (upd-at ρ w b) ∙ even (eval ns (upd ρ w b) (child n b)) in
     ⊎-elim (λ k. k)
-      (λ out.
-        let free : (ρ : ℕ → Bool) → φ (fixed (p .at) w (upd ρ w true)) ≡ φ (fixed (p .at) w (upd ρ w false)) = λ ρ.
-          only (fixed (p .at) w (upd ρ w true)) (fixed (p .at) w (upd ρ w false)) (λ u k.
-            let ne : u ≡ w → ⊥ = λ e. out (subst (λ x. In x vs) e k) in
-            ap (λ y. cond (ltb u w) (p .at u) y) (upd-other ρ w true u ne ∙ sym (upd-other ρ w false u ne))) in
-        absurd (fits .differ (same-edge ns (n .high) (n .low) good (omega arith) (omega arith) (λ ρ.
-          sym (at ρ true ∙ eval-upd ns ρ w true (n .high) good (omega arith) (fits .high-later))
-          ∙ p .value-is (upd ρ w true) ∙ ap (turned (p .turn)) (free ρ) ∙ sym (p .value-is (upd ρ w false))
-          ∙ at ρ false ∙ eval-upd ns ρ w false (n .low) good (omega arith) (fits .low-later)))))
-      (in-or-not w vs)
+    (λ out.
+    let free : (ρ : ℕ → Bool) → φ (fixed (p .at) w (upd ρ w true)) ≡ φ (fixed (p .at) w (upd ρ w false)) = λ ρ.
+    only (fixed (p .at) w (upd ρ w true)) (fixed (p .at) w (upd ρ w false)) (λ u k.
+    let ne : u ≡ w → ⊥ = λ e. out (subst (λ x. In x vs) e k) in
+    ap (λ y. cond (ltb u w) (p .at u) y) (upd-other ρ w true u ne ∙ sym (upd-other ρ w false u ne))) in
+    absurd (fits .differ (same-edge ns (n .high) (n .low) good (omega arith) (omega arith) (λ ρ.
+    sym (at ρ true ∙ eval-upd ns ρ w true (n .high) good (omega arith) (fits .high-later))
+    ∙ p .value-is (upd ρ w true) ∙ ap (turned (p .turn)) (free ρ) ∙ sym (p .value-is (upd ρ w false))
+    ∙ at ρ false ∙ eval-upd ns ρ w false (n .low) good (omega arith) (fits .low-later)))))
+    (in-or-not w vs)
 
 -- nodes past ns that are parts of φ, one of them more than there is room for
 pub refusal : (ns ms : List Node) (φ : (ℕ → Bool) → Bool) (limit : ℕ) (extra : Node) → Good ns → Grown ns ms → limit ≤ length ms → Good (ms ++ extra ∷ [])
-  → ((i : ℕ) → length ns ≤ i → i < length (ms ++ extra ∷ []) → PartOf (ms ++ extra ∷ []) φ i) → TooMany ns limit φ
+    → ((i : ℕ) → length ns ≤ i → i < length (ms ++ extra ∷ []) → PartOf (ms ++ extra ∷ []) φ i) → TooMany ns limit φ
 refusal ns ms φ limit extra good grown full good′ parts vs φs asc old only held =
     let os : List Node = ms ++ extra ∷ [] in
     let long : length os ≡ length ms + 1 = simp length-append in
     let grown′ : Grown ns os = grown-on ns ms os grown (grown-push ms extra) in
     let longer = grown′ .longer in
     let vars : Inputs os vs = λ i h. ⊎-elim
-      (λ lt. subst (λ n. In (n .var) vs) (sym (grown′ .kept i lt)) (old i lt))
-      (λ ge. part-input os vs φ i good′ h only (parts i ge h))
-      (cases-lt i (length ns)) in
+    (λ lt. subst (λ n. In (n .var) vs) (sym (grown′ .kept i lt)) (old i lt))
+    (λ ge. part-input os vs φ i good′ h only (parts i ge h))
+    (cases-lt i (length ns)) in
     let fit = fitting os vs (φ ∷ φs) good′ asc vars (λ i h. ⊎-elim
-      (λ lt. inr (held-kept ns os vs i φs good grown′ lt (held i lt)))
-      (λ ge. inl (only, parts i ge h))
-      (cases-lt i (length ns))) in
+    (λ lt. inr (held-kept ns os vs i φs good grown′ lt (held i lt)))
+    (λ ge. inl (only, parts i ge h))
+    (cases-lt i (length ns))) in
     omega arith

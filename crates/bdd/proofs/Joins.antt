@@ -50,9 +50,9 @@ both-f ns f g inside which = record {
   inside = inside;
   first = λ v hf hg. hf;
   value-is = λ ρ. ⊎-elim
-    (λ e. and-self (eval ns ρ f) ∙ ap (λ x. eval ns ρ f && eval ns ρ x) e)
-    (λ e. and-true (eval ns ρ f) ∙ ap (λ b. eval ns ρ f && b) (sym (ap (eval ns ρ) e ∙ eval-true ns ρ)))
-    which;
+      (λ e. and-self (eval ns ρ f) ∙ ap (λ x. eval ns ρ f && eval ns ρ x) e)
+      (λ e. and-true (eval ns ρ f) ∙ ap (λ b. eval ns ρ f && b) (sym (ap (eval ns ρ) e ∙ eval-true ns ρ)))
+      which;
 }
 
 pub both-g : (ns : List Node) (f g : ℕ) → g / 2 ≤ length ns → f ≡ 1 → Both ns ns f g g
@@ -67,26 +67,26 @@ both-none ns f g good inside which = record {
   inside = omega arith;
   first = λ v hf hg. let b = var-bound ns (f / 2) good inside in omega arith;
   value-is = λ ρ. eval-false ns ρ ∙ ⊎-elim
-    (λ e. ap (λ b. b && eval ns ρ g) (sym (ap (eval ns ρ) e ∙ eval-false ns ρ)))
-    (⊎-elim
+      (λ e. ap (λ b. b && eval ns ρ g) (sym (ap (eval ns ρ) e ∙ eval-false ns ρ)))
+      (⊎-elim
       (λ e. and-false (eval ns ρ f) ∙ ap (λ b. eval ns ρ f && b) (sym (ap (eval ns ρ) e ∙ eval-false ns ρ)))
       (λ e. and-not (eval ns ρ g) ∙ ap (λ b. b && eval ns ρ g) (sym (ap (eval ns ρ) e ∙ eval-flip ns ρ g))))
-    which;
+      which;
 }
 
 pub both-step : (ns n₁ n₂ n₃ : List Node) (f g v fh gh fl gl h l r : ℕ)
-  → Good ns → Good n₁ → Grown ns n₁ → Grown n₁ n₂
-  → v ≡ min (top ns f) (top ns g)
-  → Cofactor ns f v true fh → Cofactor ns g v true gh → Cofactor ns f v false fl → Cofactor ns g v false gl
-  → Both ns n₁ fh gh h → Both n₁ n₂ fl gl l → Made n₂ n₃ v h l r → Both ns n₃ f g r
+    → Good ns → Good n₁ → Grown ns n₁ → Grown n₁ n₂
+    → v ≡ min (top ns f) (top ns g)
+    → Cofactor ns f v true fh → Cofactor ns g v true gh → Cofactor ns f v false fl → Cofactor ns g v false gl
+    → Both ns n₁ fh gh h → Both n₁ n₂ fl gl l → Made n₂ n₃ v h l r → Both ns n₃ f g r
 both-step ns n₁ n₂ n₃ f g v fh gh fl gl h l r good good₁ grown grown₁ vis cfh cgh cfl cgl bh bl made = record {
   inside = made .inside;
   first = λ w hf hg. let m = made .first in omega arith;
   value-is = λ ρ. ⊎-elim
-    (λ t. made .high-is ρ t ∙ eval-kept n₁ n₂ ρ h good₁ grown₁ (bh .inside) ∙ bh .value-is ρ ∙ ap₂ _&&_ (cfh .value-is ρ t) (cgh .value-is ρ t))
-    (λ t. made .low-is ρ t ∙ bl .value-is ρ
+      (λ t. made .high-is ρ t ∙ eval-kept n₁ n₂ ρ h good₁ grown₁ (bh .inside) ∙ bh .value-is ρ ∙ ap₂ _&&_ (cfh .value-is ρ t) (cgh .value-is ρ t))
+      (λ t. made .low-is ρ t ∙ bl .value-is ρ
       ∙ ap₂ _&&_ (eval-kept ns n₁ ρ fl good grown (cfl .inside) ∙ cfl .value-is ρ t) (eval-kept ns n₁ ρ gl good grown (cgl .inside) ∙ cgl .value-is ρ t))
-    (cases-bool (ρ v));
+      (cases-bool (ρ v));
 }
 
 -- the result of a part looks at v no more

@@ -58,12 +58,12 @@ part-root ns e k good inside is =
 fixed-twice : (σ ρ : ℕ → Bool) (w x : ℕ) (b : Bool) → w < x → (u : ℕ) → fixed σ w (upd (fixed σ x ρ) w b) u ≡ fixed (upd σ w b) x ρ u
 fixed-twice σ ρ w x b lt u = ⊎-elim
     (λ l.
-      ap (λ t. cond t (σ u) (upd (fixed σ x ρ) w b u)) (lt-ltb u w l)
-      ∙ sym (ap (λ t. cond t (upd σ w b u) (ρ u)) (lt-ltb u x (omega arith)) ∙ upd-other σ w b u (omega arith)))
+    ap (λ t. cond t (σ u) (upd (fixed σ x ρ) w b u)) (lt-ltb u w l)
+    ∙ sym (ap (λ t. cond t (upd σ w b u) (ρ u)) (lt-ltb u x (omega arith)) ∙ upd-other σ w b u (omega arith)))
     (λ g. ap (λ t. cond t (σ u) (upd (fixed σ x ρ) w b u)) (le-ltb u w g) ∙ ⊎-elim
-      (λ e. ap (upd (fixed σ x ρ) w b) e ∙ upd-at (fixed σ x ρ) w b ∙ sym (ap (λ t. cond t (upd σ w b u) (ρ u)) (lt-ltb u x (omega arith)) ∙ ap (upd σ w b) e ∙ upd-at σ w b))
-      (λ ne. upd-other (fixed σ x ρ) w b u ne ∙ sym (ap (λ y. cond (ltb u x) y (ρ u)) (upd-other σ w b u ne)))
-      (cases-eq u w))
+    (λ e. ap (upd (fixed σ x ρ) w b) e ∙ upd-at (fixed σ x ρ) w b ∙ sym (ap (λ t. cond t (upd σ w b u) (ρ u)) (lt-ltb u x (omega arith)) ∙ ap (upd σ w b) e ∙ upd-at σ w b))
+    (λ ne. upd-other (fixed σ x ρ) w b u ne ∙ sym (ap (λ y. cond (ltb u x) y (ρ u)) (upd-other σ w b u ne)))
+    (cases-eq u w))
     (cases-lt u w)
 
 pub part-child : (ns : List Node) (φ : (ℕ → Bool) → Bool) (k j : ℕ) (b : Bool) → Good ns → k < length ns → PartOf ns φ k → child (nodeAt ns k) b / 2 ≡ suc j → PartOf ns φ j
@@ -82,23 +82,23 @@ part-child ns φ k j b good h p is =
       at = upd (p .at) w b;
       turn = turn;
       value-is = λ ρ.
-        let ρ₁ : ℕ → Bool = fixed (p .at) x ρ in
-        let ρ₂ : ℕ → Bool = upd ρ₁ w b in
-        straight-of ns ρ c j (omega arith)
-        ∙ ap (turned (inverted c))
+          let ρ₁ : ℕ → Bool = fixed (p .at) x ρ in
+          let ρ₂ : ℕ → Bool = upd ρ₁ w b in
+          straight-of ns ρ c j (omega arith)
+          ∙ ap (turned (inverted c))
           (sym (eval-fixed ns (p .at) ρ x c good (omega arith) (omega arith))
           ∙ sym (eval-upd ns ρ₁ w b c good (omega arith) (cf .1))
           ∙ sym (eval-child ns ρ₂ (2 * (k + 1)) k b good own h (upd-at ρ₁ w b) ∙ turned-even (2 * (k + 1)) (eval ns ρ₂ c) (omega arith))
           ∙ p .value-is ρ₂ ∙ ap (λ τ. turned (p .turn) (φ τ)) (fun-ext (fixed-twice (p .at) ρ w x b lt)))
-        ∙ turned-turned (inverted c) (p .turn) (φ (fixed (upd (p .at) w b) x ρ));
+          ∙ turned-turned (inverted c) (p .turn) (φ (fixed (upd (p .at) w b) x ρ));
     }
 
 pub marks-start : (ns : List Node) (e : ℕ) (ms : List Bool) → Good ns → e / 2 ≤ length ns → e / 2 ≤ length ms → ((k : ℕ) → k < e / 2 → at ms k ≡ false) → Marks ns e (e / 2) (e / 2) (at (withMark ms (e / 2)))
 marks-start ns e ms good inside room none = record {
   part = λ k h t. ⊎-elim
-    (λ old. absurd (both-ways (at ms k) (none k h) old))
-    (λ is. part-root ns e k good inside (omega arith))
-    (mark-which ms (e / 2) k t);
+      (λ old. absurd (both-ways (at ms k) (none k h) old))
+      (λ is. part-root ns e k good inside (omega arith))
+      (mark-which ms (e / 2) k t);
   closed = λ k le lt. absurd (omega arith);
   root = mark-own ms (e / 2) room;
 }
@@ -111,7 +111,7 @@ marks-skip ns e n i m f s = record {
 }
 
 pub marks-step : (ns : List Node) (e n i : ℕ) (ms : List Bool) → Good ns → n ≤ length ns → n ≤ length ms → i < n → at ms i ≡ true → Marks ns e n (suc i) (at ms)
-  → Marks ns e n i (at (withMark (withMark ms (nodeAt ns i .high / 2)) (nodeAt ns i .low / 2)))
+    → Marks ns e n i (at (withMark (withMark ms (nodeAt ns i .high / 2)) (nodeAt ns i .low / 2)))
 marks-step ns e n i ms good in-ns in-ms lt t s =
     let c : Node = nodeAt ns i in
     let fits = good .fits i (omega arith) in
@@ -126,26 +126,26 @@ marks-step ns e n i ms good in-ns in-ms lt t s =
     let own = s .part i lt t in
     record {
       part = λ k h q. ⊎-elim
-        (λ q₁. ⊎-elim (λ q₀. s .part k h q₀) (λ is. part-child ns (λ ρ. eval ns ρ e) i k true good (omega arith) own is) (mark-which ms (c .high / 2) k q₁))
-        (λ is. part-child ns (λ ρ. eval ns ρ e) i k false good (omega arith) own is)
-        (mark-which m₁ (c .low / 2) k q);
+          (λ q₁. ⊎-elim (λ q₀. s .part k h q₀) (λ is. part-child ns (λ ρ. eval ns ρ e) i k true good (omega arith) own is) (mark-which ms (c .high / 2) k q₁))
+          (λ is. part-child ns (λ ρ. eval ns ρ e) i k false good (omega arith) own is)
+          (mark-which m₁ (c .low / 2) k q);
       closed = λ k le h q. ⊎-elim
-        (λ eq. subst (λ x. Marked (at m₂) (nodeAt ns x .high / 2) × Marked (at m₂) (nodeAt ns x .low / 2)) eq
+          (λ eq. subst (λ x. Marked (at m₂) (nodeAt ns x .high / 2) × Marked (at m₂) (nodeAt ns x .low / 2)) eq
           (marked-kept m₁ (c .low / 2) (c .high / 2) lin (mark-own ms (c .high / 2) hin), mark-own m₁ (c .low / 2) lin))
-        (λ ne.
+          (λ ne.
           let r = s .closed k (omega arith) h (sym (above k le) ∙ q) in
           (still (nodeAt ns k .high / 2) (r .0), still (nodeAt ns k .low / 2) (r .1)))
-        (cases-eq i k);
+          (cases-eq i k);
       root = still (e / 2) (s .root);
     }
 
 -- a turn of the loop that marks, at a node that is marked
 pub turn-marked : (ns : List Node) (e n i : ℕ) (ms ms′ : List Bool) → Good ns → n ≤ length ns → n ≤ length ms → 0 < i → i ≤ n → Marks ns e n i (at ms) → at ms (i - 1) ≡ true
-  → ms′ ≡ withMark (withMark ms (nodeAt ns (i - 1) .high / 2)) (nodeAt ns (i - 1) .low / 2) → Marks ns e n (i - 1) (at ms′)
+    → ms′ ≡ withMark (withMark ms (nodeAt ns (i - 1) .high / 2)) (nodeAt ns (i - 1) .low / 2) → Marks ns e n (i - 1) (at ms′)
 turn-marked ns e n i ms ms′ good in-ns in-ms pos le marks mark is =
     let ij : i ≡ suc (i - 1) = omega arith in
     subst (λ x. Marks ns e n (i - 1) (at x)) (sym is)
-      (marks-step ns e n (i - 1) ms good in-ns in-ms (omega arith) mark (subst (λ k. Marks ns e n k (at ms)) ij marks))
+    (marks-step ns e n (i - 1) ms good in-ns in-ms (omega arith) mark (subst (λ k. Marks ns e n k (at ms)) ij marks))
 
 -- and at one that is not
 pub turn-skipped : (ns : List Node) (e n i : ℕ) (ms : List Bool) → 0 < i → Marks ns e n i (at ms) → at ms (i - 1) ≡ false → Marks ns e n (i - 1) (at ms)

@@ -57,9 +57,9 @@ pub near-or-not : (t u : Fn) → Near t u ⊎ (Near t u → ⊥)
 near-or-not t u = ⊎-elim
     (λ a. inl (inl (same-true t u a)))
     (λ a. ⊎-elim
-      (λ b. inl (inr (same-true t (opposite u) b)))
-      (λ b. inr (λ n. ⊎-elim (λ e. both-ways (same t u) a (same-of t u e)) (λ e. both-ways (same t (opposite u)) b (same-of t (opposite u) e)) n))
-      (cases-bool (same t (opposite u))))
+    (λ b. inl (inr (same-true t (opposite u) b)))
+    (λ b. inr (λ n. ⊎-elim (λ e. both-ways (same t u) a (same-of t u e)) (λ e. both-ways (same t (opposite u)) b (same-of t (opposite u) e)) n))
+    (cases-bool (same t (opposite u))))
     (cases-bool (same t u))
 
 abbrev pub Known : Fn → List Fn → Type 0
@@ -114,9 +114,9 @@ find-near T u zero = inr (λ i h. absurd (omega arith))
 find-near T u (suc n) = ⊎-elim
     (λ p. let h = p .1 in inl (p .0, omega arith, p .2))
     (λ none. ⊎-elim
-      (λ a. inl (n, omega arith, a))
-      (λ a. inr (λ i h. ⊎-elim (λ e. subst (λ k. Near (T k) u → ⊥) (sym e) a) (λ ne. none i (omega arith)) (cases-eq i n)))
-      (near-or-not (T n) u))
+    (λ a. inl (n, omega arith, a))
+    (λ a. inr (λ i h. ⊎-elim (λ e. subst (λ k. Near (T k) u → ⊥) (sym e) a) (λ ne. none i (omega arith)) (cases-eq i n)))
+    (near-or-not (T n) u))
     (find-near T u n)
 
 distinct-known : (u : Fn) (us : List Fn) → known u us ≡ true → distinct (u ∷ us) ≡ distinct us
@@ -132,20 +132,20 @@ pigeons [] (suc n) T k a = absurd (k 0 (omega arith))
 pigeons (u ∷ us) zero T k a = omega arith
 pigeons (u ∷ us) (suc n) T k a = ⊎-elim
     (λ old.
-      let ih = pigeons us (suc n) T (λ i h. ⊎-elim (λ near. known-near (T i) u us near (known-is u us old)) (λ q. q) (k i h)) a in
-      omega (arith, distinct-known u us old))
+    let ih = pigeons us (suc n) T (λ i h. ⊎-elim (λ near. known-near (T i) u us near (known-is u us old)) (λ q. q) (k i h)) a in
+    omega (arith, distinct-known u us old))
     (λ new. ⊎-elim
-      (λ p.
-        let i : ℕ = p .0 in
-        let ih = pigeons us n (λ m. T (skip i m))
-          (λ m h. ⊎-elim
-            (λ near. absurd (skip-other i m (a (skip i m) i (skip-below i m n h) (p .1) (near-on (T (skip i m)) u (T i) near (near-sym (T i) u (p .2))))))
-            (λ q. q)
-            (k (skip i m) (skip-below i m n h)))
-          (λ m l hm hl near. skip-inj i m l (a (skip i m) (skip i l) (skip-below i m n hm) (skip-below i l n hl) near)) in
-        omega (arith, distinct-new u us new))
-      (λ none.
-        let ih = pigeons us (suc n) T (λ i h. ⊎-elim (λ near. absurd (none i h near)) (λ q. q) (k i h)) a in
-        omega (arith, distinct-new u us new))
-      (find-near T u (suc n)))
+    (λ p.
+    let i : ℕ = p .0 in
+    let ih = pigeons us n (λ m. T (skip i m))
+    (λ m h. ⊎-elim
+    (λ near. absurd (skip-other i m (a (skip i m) i (skip-below i m n h) (p .1) (near-on (T (skip i m)) u (T i) near (near-sym (T i) u (p .2))))))
+    (λ q. q)
+    (k (skip i m) (skip-below i m n h)))
+    (λ m l hm hl near. skip-inj i m l (a (skip i m) (skip i l) (skip-below i m n hm) (skip-below i l n hl) near)) in
+    omega (arith, distinct-new u us new))
+    (λ none.
+    let ih = pigeons us (suc n) T (λ i h. ⊎-elim (λ near. absurd (none i h near)) (λ q. q) (k i h)) a in
+    omega (arith, distinct-new u us new))
+    (find-near T u (suc n)))
     (cases-bool (known u us))

@@ -71,20 +71,20 @@ table-inj [] φ ψ ρ ρ′ τ e = one-same (φ ρ) (ψ ρ′) e
 table-inj (v ∷ vs) φ ψ ρ ρ′ τ e =
     let P : Bool → Type 0 = λ b. φ (on vs τ (upd ρ v b)) ≡ ψ (on vs τ (upd ρ′ v b)) in
     elim (τ v) as P [
-      true ↦ table-inj vs φ ψ (upd ρ v true) (upd ρ′ v true) τ (fork-left _ _ _ _ e)
-    | false ↦ table-inj vs φ ψ (upd ρ v false) (upd ρ′ v false) τ (fork-right _ _ _ _ e)
+      | true ↦ table-inj vs φ ψ (upd ρ v true) (upd ρ′ v true) τ (fork-left _ _ _ _ e)
+      | false ↦ table-inj vs φ ψ (upd ρ v false) (upd ρ′ v false) τ (fork-right _ _ _ _ e)
     ]
 
 -- tables of functions that agree wherever R holds, which a fixed input keeps
 pub table-like : (vs : List ℕ) (φ ψ : (ℕ → Bool) → Bool) (R : (ℕ → Bool) → (ℕ → Bool) → Type 0) (w : ℕ)
-  → ((ρ ρ′ : ℕ → Bool) → R ρ ρ′ → φ ρ ≡ ψ ρ′) → ((ρ ρ′ : ℕ → Bool) (v : ℕ) (b : Bool) → w ≤ v → R ρ ρ′ → R (upd ρ v b) (upd ρ′ v b))
-  → ((v : ℕ) → In v vs → w ≤ v) → (ρ ρ′ : ℕ → Bool) → R ρ ρ′ → table vs φ ρ ≡ table vs ψ ρ′
+    → ((ρ ρ′ : ℕ → Bool) → R ρ ρ′ → φ ρ ≡ ψ ρ′) → ((ρ ρ′ : ℕ → Bool) (v : ℕ) (b : Bool) → w ≤ v → R ρ ρ′ → R (upd ρ v b) (upd ρ′ v b))
+    → ((v : ℕ) → In v vs → w ≤ v) → (ρ ρ′ : ℕ → Bool) → R ρ ρ′ → table vs φ ρ ≡ table vs ψ ρ′
 table-like [] φ ψ R w agree keep from ρ ρ′ r = ap one (agree ρ ρ′ r)
 table-like (v ∷ vs) φ ψ R w agree keep from ρ ρ′ r =
     let le : w ≤ v = from v (inl refl) in
     ap₂ fork
-      (table-like vs φ ψ R w agree keep (λ u h. from u (inr h)) (upd ρ v true) (upd ρ′ v true) (keep ρ ρ′ v true le r))
-      (table-like vs φ ψ R w agree keep (λ u h. from u (inr h)) (upd ρ v false) (upd ρ′ v false) (keep ρ ρ′ v false le r))
+    (table-like vs φ ψ R w agree keep (λ u h. from u (inr h)) (upd ρ v true) (upd ρ′ v true) (keep ρ ρ′ v true le r))
+    (table-like vs φ ψ R w agree keep (λ u h. from u (inr h)) (upd ρ v false) (upd ρ′ v false) (keep ρ ρ′ v false le r))
 
 pub above-in : (v : ℕ) (ws : List ℕ) (u : ℕ) → Above v ws → In u ws → v < u
 above-in v [] u a h = absurd h
@@ -164,7 +164,7 @@ part-here x y us d = subst (λ b. Known (fork x y) (cond b [] (fork x y ∷ []) 
 
 -- a table along some inputs is a part, if it depends on the next
 pub part-known : (vs : List ℕ) (φ : (ℕ → Bool) → Bool) (ρ σ : ℕ → Bool) (w : ℕ) → Ascending vs → In w vs → Depends (table (after w vs) φ (along σ w vs ρ))
-  → Known (table (after w vs) φ (along σ w vs ρ)) (parts (table vs φ ρ))
+    → Known (table (after w vs) φ (along σ w vs ρ)) (parts (table vs φ ρ))
 part-known [] φ ρ σ w a h d = absurd h
 part-known (v ∷ vs) φ ρ σ w a (inl e) d =
     let x : Fn = table vs φ (upd ρ v true) in
@@ -184,15 +184,15 @@ part-known (v ∷ vs) φ ρ σ w a (inr k) d =
     let P : Bool → Type 0 = λ b. Depends (S b) → Known (S b) (parts (table (v ∷ vs) φ ρ)) in
     let Q : Bool → Type 0 = λ b. Known (S true) (parts (table vs φ (upd ρ v b))) → Known (S true) (own ++ (parts x ++ parts y)) in
     let both : Q (σ v) = elim (σ v) as Q [
-      true ↦ λ q. known-right (S true) own (parts x ++ parts y) (known-left (S true) (parts x) (parts y) q)
-    | false ↦ λ q. known-right (S true) own (parts x ++ parts y) (known-right (S true) (parts x) (parts y) q)
+      | true ↦ λ q. known-right (S true) own (parts x ++ parts y) (known-left (S true) (parts x) (parts y) q)
+      | false ↦ λ q. known-right (S true) own (parts x ++ parts y) (known-right (S true) (parts x) (parts y) q)
     ] in
     let there : P true = λ d′. both (part-known vs φ (upd ρ v (σ v)) σ w (a .1) k d′) in
     subst P (sym t) there d
 
 -- what an edge looks at
 value-only : (ns : List Node) (ρ ρ′ : ℕ → Bool) (w : ℕ) → Good ns → ((i : ℕ) → i < length ns → w ≤ nodeAt ns i .var → ρ (nodeAt ns i .var) ≡ ρ′ (nodeAt ns i .var))
-  → (k j : ℕ) → j ≤ length ns → w ≤ varAt ns j → value k ns ρ j ≡ value k ns ρ′ j
+    → (k j : ℕ) → j ≤ length ns → w ≤ varAt ns j → value k ns ρ j ≡ value k ns ρ′ j
 unfolding value
 value-only ns ρ ρ′ w good agree zero j h le = refl
 value-only ns ρ ρ′ w good agree (suc k) zero h le = refl
@@ -205,11 +205,11 @@ value-only ns ρ ρ′ w good agree (suc k) (suc i) h le =
     let ll = f .low-later in
     branch-at ρ ρ′ (value k ns ρ) n (agree i h le)
     ∙ branch-like ρ′ (value k ns ρ) (value k ns ρ′) n
-      (value-only ns ρ ρ′ w good agree k (n .high / 2) (omega arith) (omega arith))
-      (value-only ns ρ ρ′ w good agree k (n .low / 2) (omega arith) (omega arith))
+    (value-only ns ρ ρ′ w good agree k (n .high / 2) (omega arith) (omega arith))
+    (value-only ns ρ ρ′ w good agree k (n .low / 2) (omega arith) (omega arith))
 
 pub eval-only : (ns : List Node) (ρ ρ′ : ℕ → Bool) (w e : ℕ) → Good ns → ((i : ℕ) → i < length ns → w ≤ nodeAt ns i .var → ρ (nodeAt ns i .var) ≡ ρ′ (nodeAt ns i .var))
-  → e / 2 ≤ length ns → w ≤ top ns e → eval ns ρ e ≡ eval ns ρ′ e
+    → e / 2 ≤ length ns → w ≤ top ns e → eval ns ρ e ≡ eval ns ρ′ e
 unfolding eval
 eval-only ns ρ ρ′ w e good agree h le = ap (turned (inverted e)) (value-only ns ρ ρ′ w good agree (e / 2) (e / 2) h le)
 
@@ -222,21 +222,21 @@ along-high [] σ ρ w u le = refl
 along-high (v ∷ vs) σ ρ w u le =
     let A : Bool → ℕ → Bool = λ b. cond b (along σ w vs (upd ρ v (σ v))) ρ in
     ⊎-elim
-      (λ t. let l = ltb-true v w t in ap (λ b. A b u) t ∙ along-high vs σ (upd ρ v (σ v)) w u le ∙ upd-other ρ v (σ v) u (omega arith))
-      (λ t. ap (λ b. A b u) t)
-      (cases-bool (ltb v w))
+    (λ t. let l = ltb-true v w t in ap (λ b. A b u) t ∙ along-high vs σ (upd ρ v (σ v)) w u le ∙ upd-other ρ v (σ v) u (omega arith))
+    (λ t. ap (λ b. A b u) t)
+    (cases-bool (ltb v w))
 
 along-stays : (vs : List ℕ) (σ ρ : ℕ → Bool) (w u : ℕ) → ρ u ≡ σ u → along σ w vs ρ u ≡ σ u
 along-stays [] σ ρ w u h = h
 along-stays (v ∷ vs) σ ρ w u h =
     let A : Bool → ℕ → Bool = λ b. cond b (along σ w vs (upd ρ v (σ v))) ρ in
     ⊎-elim
-      (λ t. ap (λ b. A b u) t ∙ along-stays vs σ (upd ρ v (σ v)) w u (⊎-elim
-        (λ e. ap (upd ρ v (σ v)) e ∙ upd-at ρ v (σ v) ∙ ap σ (sym e))
-        (λ ne. upd-other ρ v (σ v) u ne ∙ h)
-        (cases-eq u v)))
-      (λ t. ap (λ b. A b u) t ∙ h)
-      (cases-bool (ltb v w))
+    (λ t. ap (λ b. A b u) t ∙ along-stays vs σ (upd ρ v (σ v)) w u (⊎-elim
+    (λ e. ap (upd ρ v (σ v)) e ∙ upd-at ρ v (σ v) ∙ ap σ (sym e))
+    (λ ne. upd-other ρ v (σ v) u ne ∙ h)
+    (cases-eq u v)))
+    (λ t. ap (λ b. A b u) t ∙ h)
+    (cases-bool (ltb v w))
 
 along-low : (vs : List ℕ) (σ ρ : ℕ → Bool) (w u : ℕ) → Ascending vs → In u vs → u < w → along σ w vs ρ u ≡ σ u
 along-low [] σ ρ w u a h lt = absurd h
@@ -259,20 +259,20 @@ pub fixed-table : (vs : List ℕ) (φ : (ℕ → Bool) → Bool) (σ ρ : ℕ �
 fixed-table vs φ σ ρ w a only f =
     let R : (ℕ → Bool) → (ℕ → Bool) → Type 0 = λ τ τ′. (u : ℕ) → In u vs → fixed σ w τ u ≡ τ′ u in
     table-like (after w vs) (λ τ. φ (fixed σ w τ)) φ R w
-      (λ τ τ′ r. only (fixed σ w τ) τ′ r)
-      (λ τ τ′ v b le r u h. ⊎-elim
-        (λ e. fixed-high σ (upd τ v b) w u (omega arith) ∙ ap (upd τ v b) e ∙ upd-at τ v b ∙ sym (ap (upd τ′ v b) e ∙ upd-at τ′ v b))
-        (λ ne. ⊎-elim
-          (λ lt. fixed-low σ (upd τ v b) w u lt ∙ sym (fixed-low σ τ w u lt) ∙ r u h ∙ sym (upd-other τ′ v b u ne))
-          (λ ge. fixed-high σ (upd τ v b) w u ge ∙ upd-other τ v b u ne ∙ sym (fixed-high σ τ w u ge) ∙ r u h ∙ sym (upd-other τ′ v b u ne))
-          (cases-lt u w))
-        (cases-eq u v))
-      (f .from)
-      ρ (along σ w vs ρ)
-      (λ u h. ⊎-elim
-        (λ lt. fixed-low σ ρ w u lt ∙ sym (along-low vs σ ρ w u a h lt))
-        (λ ge. fixed-high σ ρ w u ge ∙ sym (along-high vs σ ρ w u ge))
-        (cases-lt u w))
+    (λ τ τ′ r. only (fixed σ w τ) τ′ r)
+    (λ τ τ′ v b le r u h. ⊎-elim
+    (λ e. fixed-high σ (upd τ v b) w u (omega arith) ∙ ap (upd τ v b) e ∙ upd-at τ v b ∙ sym (ap (upd τ′ v b) e ∙ upd-at τ′ v b))
+    (λ ne. ⊎-elim
+    (λ lt. fixed-low σ (upd τ v b) w u lt ∙ sym (fixed-low σ τ w u lt) ∙ r u h ∙ sym (upd-other τ′ v b u ne))
+    (λ ge. fixed-high σ (upd τ v b) w u ge ∙ upd-other τ v b u ne ∙ sym (fixed-high σ τ w u ge) ∙ r u h ∙ sym (upd-other τ′ v b u ne))
+    (cases-lt u w))
+    (cases-eq u v))
+    (f .from)
+    ρ (along σ w vs ρ)
+    (λ u h. ⊎-elim
+    (λ lt. fixed-low σ ρ w u lt ∙ sym (along-low vs σ ρ w u a h lt))
+    (λ ge. fixed-high σ ρ w u ge ∙ sym (along-high vs σ ρ w u ge))
+    (cases-lt u w))
 
 pub depends-opposite : (t : Fn) → Depends (opposite t) → Depends t
 unfolding Depends

@@ -24,8 +24,8 @@ edge-like f g e h = ap (turned (inverted e)) h
 pub branch-like : (ρ f g : ℕ → Bool) (n : Node) → f (n .high / 2) ≡ g (n .high / 2) → f (n .low / 2) ≡ g (n .low / 2) → branch ρ f n ≡ branch ρ g n
 branch-like ρ f g n h l =
     elim (ρ (n .var)) as (λ b. _≡_ {A = Bool} (elim b [ true ↦ edge f (n .high) | false ↦ edge f (n .low) ]) (elim b [ true ↦ edge g (n .high) | false ↦ edge g (n .low) ])) [
-      true ↦ edge-like f g (n .high) h
-    | false ↦ edge-like f g (n .low) l
+      | true ↦ edge-like f g (n .high) h
+      | false ↦ edge-like f g (n .low) l
     ]
 
 -- the depth does not matter, nor do nodes past those of ns
@@ -43,8 +43,8 @@ value-agrees ns ms ρ good grown (suc k) (suc k′) (suc i) h h′ inside =
     let hb = fits .high-back in
     let lb = fits .low-back in
     branch-like ρ (value k ns ρ) (value k′ ms ρ) n
-      (value-agrees ns ms ρ good grown k k′ (n .high / 2) (omega arith) (omega arith) (omega arith))
-      (value-agrees ns ms ρ good grown k k′ (n .low / 2) (omega arith) (omega arith) (omega arith))
+    (value-agrees ns ms ρ good grown k k′ (n .high / 2) (omega arith) (omega arith) (omega arith))
+    (value-agrees ns ms ρ good grown k k′ (n .low / 2) (omega arith) (omega arith) (omega arith))
     ∙ ap (branch ρ (value k′ ms ρ)) (sym (grown .kept i inside))
 
 pub grown-self : (ns : List Node) → Grown ns ns
@@ -62,7 +62,7 @@ grown-take ns ms k is g =
     let longer = g .longer in
     let fits : k ≤ length ms = omega arith in
     same-lists ns (take k ms) (is ∙ sym (length-take-le k ms fits)) (λ i d lt.
-      getD-default ns i d (node 0 0 0) lt ∙ sym (g .kept i lt) ∙ getD-default ms i (node 0 0 0) d (omega arith) ∙ sym (getD-take k ms i d (omega arith)))
+    getD-default ns i d (node 0 0 0) lt ∙ sym (g .kept i lt) ∙ getD-default ms i (node 0 0 0) d (omega arith) ∙ sym (getD-take k ms i d (omega arith)))
 
 pub eval-kept : (ns ms : List Node) (ρ : ℕ → Bool) (e : ℕ) → Good ns → Grown ns ms → e / 2 ≤ length ns → eval ms ρ e ≡ eval ns ρ e
 unfolding eval
@@ -78,8 +78,8 @@ value-node ns ρ i good inside =
     let hb = fits .high-back in
     let lb = fits .low-back in
     branch-like ρ (value i ns ρ) (λ j. value j ns ρ j) n
-      (value-agrees ns ns ρ good (grown-self ns) i (n .high / 2) (n .high / 2) hb (omega arith) (omega arith))
-      (value-agrees ns ns ρ good (grown-self ns) i (n .low / 2) (n .low / 2) lb (omega arith) (omega arith))
+    (value-agrees ns ns ρ good (grown-self ns) i (n .high / 2) (n .high / 2) hb (omega arith) (omega arith))
+    (value-agrees ns ns ρ good (grown-self ns) i (n .low / 2) (n .low / 2) lb (omega arith) (omega arith))
 
 pub branch-child : (ρ f : ℕ → Bool) (n : Node) (b : Bool) → ρ (n .var) ≡ b → branch ρ f n ≡ edge f (child n b)
 branch-child ρ f n true h = let P : Bool → Type 0 = λ b. _≡_ {A = Bool} (elim b [ true ↦ edge f (n .high) | false ↦ edge f (n .low) ]) (edge f (n .high)) in subst P (sym h) refl
@@ -106,7 +106,7 @@ eval-flip ns ρ e = ap (λ j. turned (inverted (flip e)) (value j ns ρ j)) (fli
 
 -- what an edge's function is, where its first variable is fixed
 pub eval-child : (ns : List Node) (ρ : ℕ → Bool) (e i : ℕ) (b : Bool) → Good ns → e / 2 ≡ suc i → i < length ns → ρ (nodeAt ns i .var) ≡ b
-  → eval ns ρ e ≡ turned (inverted e) (eval ns ρ (child (nodeAt ns i) b))
+    → eval ns ρ e ≡ turned (inverted e) (eval ns ρ (child (nodeAt ns i) b))
 unfolding eval
 eval-child ns ρ e i b good is inside h =
     ap (turned (inverted e)) (ap (λ j. value j ns ρ j) is ∙ value-node ns ρ i good inside ∙ branch-child ρ (λ j. value j ns ρ j) (nodeAt ns i) b h)
@@ -190,25 +190,25 @@ good-push ns n good f fresh =
     let last : nodeAt ms (length ns) ≡ n = getD-push ns n (node 0 0 0) (length ns) refl in
     record {
       fits = λ i h. ⊎-elim
-        (λ lt. subst (Fits ms i) (sym (g .kept i lt)) (fits-kept ns ms i (nodeAt ns i) g (omega arith) (good .fits i lt)))
-        (λ le.
+          (λ lt. subst (Fits ms i) (sym (g .kept i lt)) (fits-kept ns ms i (nodeAt ns i) g (omega arith) (good .fits i lt)))
+          (λ le.
           let is : i ≡ length ns = omega arith in
           subst (λ k. Fits ms k (nodeAt ms k)) (sym is) (subst (Fits ms (length ns)) (sym last) (fits-kept ns ms (length ns) n g (omega arith) f)))
-        (cases-lt i (length ns));
+          (cases-lt i (length ns));
       apart = λ i j hi hj e. ⊎-elim
-        (λ lti. ⊎-elim
+          (λ lti. ⊎-elim
           (λ ltj. good .apart i j lti ltj (sym (g .kept i lti) ∙ e ∙ g .kept j ltj))
           (λ lej.
-            let is : j ≡ length ns = omega arith in
-            absurd (fresh i lti (sym (g .kept i lti) ∙ e ∙ ap (nodeAt ms) is ∙ last)))
+          let is : j ≡ length ns = omega arith in
+          absurd (fresh i lti (sym (g .kept i lti) ∙ e ∙ ap (nodeAt ms) is ∙ last)))
           (cases-lt j (length ns)))
-        (λ lei. ⊎-elim
+          (λ lei. ⊎-elim
           (λ ltj.
-            let is : i ≡ length ns = omega arith in
-            absurd (fresh j ltj (sym (g .kept j ltj) ∙ sym e ∙ ap (nodeAt ms) is ∙ last)))
+          let is : i ≡ length ns = omega arith in
+          absurd (fresh j ltj (sym (g .kept j ltj) ∙ sym e ∙ ap (nodeAt ms) is ∙ last)))
           (λ lej. omega arith)
           (cases-lt j (length ns)))
-        (cases-lt i (length ns));
+          (cases-lt i (length ns));
     }
 
 pub cases-like : {A : Type 0} (o : Option A) (P : Type 0) (Q R : A → Type 0) → ((x : A) → Q x → R x) → Cases o P Q → Cases o P R
@@ -230,18 +230,18 @@ made-straight ns ms v h l e good good′ grown hin lin p =
     let inside : i < length ms = p .inside in
     let at : nodeAt ms i .var ≡ v = ap (λ n. n .var) (p .node-is) in
     let same : (ρ : ℕ → Bool) (b : Bool) → ρ v ≡ b → eval ms ρ e ≡ eval ms ρ (child (node v h l) b) = λ ρ b t.
-      eval-child ms ρ e i b good′ is inside (ap ρ at ∙ t) ∙ turned-even e _ even ∙ ap (λ n. eval ms ρ (child n b)) (p .node-is) in
+    eval-child ms ρ e i b good′ is inside (ap ρ at ∙ t) ∙ turned-even e _ even ∙ ap (λ n. eval ms ρ (child n b)) (p .node-is) in
     record {
       inside = omega arith;
       first = subst (λ j. v ≤ varAt ms j) (sym is) (omega (arith, at));
       high-is = λ ρ t. same ρ true t ∙ eval-kept ns ms ρ h good grown hin;
       low-is = λ ρ t. same ρ false t ∙ eval-kept ns ms ρ l good grown lin;
       news = ⊎-elim (λ e. inl e)
-        (λ q.
+          (λ q.
           let long : length ms ≡ length ns + 1 = ap length (q .0) ∙ simp length-append in
           let q1 = q .1 in
           inr (long, omega arith, ap (λ k. nodeAt ms k .var) (sym q1) ∙ at))
-        (p .news);
+          (p .news);
     }
 
 pub made-flipped : (ns ms : List Node) (v h l e : ℕ) → Made ns ms v (flip h) (flip l) e → Made ns ms v h l (flip e)
@@ -268,7 +268,7 @@ short-straight ns v h l good f fresh =
       result = 2 * (length ns + 1);
       good = good′;
       made = made-straight ns ms v h l (2 * (length ns + 1)) good good′ (grown-push ns n) hb lb
-        (record { place = length ns; edge-is = refl; inside = omega arith; node-is = getD-push ns n (node 0 0 0) (length ns) refl; news = inr (refl, refl) });
+          (record { place = length ns; edge-is = refl; inside = omega arith; node-is = getD-push ns n (node 0 0 0) (length ns) refl; news = inr (refl, refl) });
     }
 
 pub short-flipped : (ns : List Node) (v h l : ℕ) → Short ns v (flip h) (flip l) → Short ns v h l

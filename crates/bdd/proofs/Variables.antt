@@ -24,13 +24,13 @@ pub variable-parts : (ns ms : List Node) (v r : ℕ) → Made ns ms v 1 0 r → 
 variable-parts ns ms v r made i old inside = ⊎-elim
     (λ same. let long = ap length same in absurd (omega arith))
     (λ q.
-      let is : i ≡ length ns = omega (arith, q .0) in
-      let half : r / 2 ≡ i + 1 = omega (arith, q .1) in
-      let at : nodeAt ms i .var ≡ v = ap (λ k. nodeAt ms k .var) is ∙ q .2 in
-      record {
-        at = λ _. false;
-        turn = inverted r;
-        value-is = λ ρ. straight-of ms ρ r i half ∙ ap (turned (inverted r)) (variable-value ns ms v r made ρ
+    let is : i ≡ length ns = omega (arith, q .0) in
+    let half : r / 2 ≡ i + 1 = omega (arith, q .1) in
+    let at : nodeAt ms i .var ≡ v = ap (λ k. nodeAt ms k .var) is ∙ q .2 in
+    record {
+      at = λ _. false;
+      turn = inverted r;
+      value-is = λ ρ. straight-of ms ρ r i half ∙ ap (turned (inverted r)) (variable-value ns ms v r made ρ
           ∙ sym (ap (λ w. fixed (λ _. false) w ρ v) at ∙ ap (λ b. cond b false (ρ v)) (le-ltb v v (omega arith))));
-      })
+    })
     (made .news)

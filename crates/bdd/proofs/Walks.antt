@@ -43,8 +43,9 @@ var-few n ns k (suc i) over h z = over i (omega arith) .1
 
 pow-le : (i j : ℕ) → i ≤ j → 2 ^ i ≤ 2 ^ j
 pow-le i j h = elim (cases-eq i j) [
-    inl e ↦ (let q = ap (λ (k : ℕ). 2 ^ k) e in omega arith)
-  | inr e ↦ (let q = pow-below i j (omega arith) in omega arith) ]
+  | inl e ↦ (let q = ap (λ (k : ℕ). 2 ^ k) e in omega arith)
+  | inr e ↦ (let q = pow-below i j (omega arith) in omega arith)
+]
 
 double : (k : ℕ) → 0 < k → 2 ^ k ≡ 2 * 2 ^ (k - 1)
 double k h =
@@ -54,17 +55,28 @@ double k h =
 
 pub walk-start : (n : ℕ) (ns : List Node) (e f : ℕ) → OverInputs n ns e → OverInputs n ns f → e / 2 ≤ length ns → f / 2 ≤ length ns → (e ≡ f → ⊥) → Walking n ns e f e f 0
 walk-start n ns e f over-e over-f he hf ne = record {
-    next = 1; some = omega arith; few = omega arith; e-inside = he; f-inside = hf; e-back = omega arith; f-back = omega arith;
-    e-later = var-some n ns (e / 2) (e / 2) over-e (omega arith); f-later = var-some n ns (f / 2) (f / 2) over-f (omega arith);
-    small = omega arith; apart = ne; e-is = λ ρ a. refl; f-is = λ ρ a. refl }
+  next = 1;
+  some = omega arith;
+  few = omega arith;
+  e-inside = he;
+  f-inside = hf;
+  e-back = omega arith;
+  f-back = omega arith;
+  e-later = var-some n ns (e / 2) (e / 2) over-e (omega arith);
+  f-later = var-some n ns (f / 2) (f / 2) over-f (omega arith);
+  small = omega arith;
+  apart = ne;
+  e-is = λ ρ a. refl;
+  f-is = λ ρ a. refl;
+}
 
 module _ {n : ℕ} {ns : List Node} {first second e f code : ℕ} (good : Good ns) (over-e : OverInputs n ns first) (over-f : OverInputs n ns second) (w : Walking n ns first second e f code)
-  (v : ℕ) (is : v ≡ min (top ns e) (top ns f)) (one : (e / 2 ≡ 0 → ⊥) ⊎ (f / 2 ≡ 0 → ⊥)) where
-
+    (v : ℕ) (is : v ≡ min (top ns e) (top ns f)) (one : (e / 2 ≡ 0 → ⊥) ⊎ (f / 2 ≡ 0 → ⊥)) where
   pub first-few : v ≤ n
   first-few = elim one [
-      inl z ↦ (let q = var-few n ns (first / 2) (e / 2) over-e (w .e-back) z in omega arith)
-    | inr z ↦ (let q = var-few n ns (second / 2) (f / 2) over-f (w .f-back) z in omega arith) ]
+    | inl z ↦ (let q = var-few n ns (first / 2) (e / 2) over-e (w .e-back) z in omega arith)
+    | inr z ↦ (let q = var-few n ns (second / 2) (f / 2) over-f (w .f-back) z in omega arith)
+  ]
 
   pub first-next : w .next ≤ v
   first-next = let a = w .e-later in let b = w .f-later in omega arith
@@ -102,11 +114,20 @@ module _ {n : ℕ} {ns : List Node} {first second e f code : ℕ} (good : Good n
       let later = cr .later in
       let later′ = cs .later in
       record {
-        next = v + 1; some = omega arith; few = omega arith; e-inside = cr .inside; f-inside = cs .inside; e-back = omega (arith, cr .no-deeper, w .e-back); f-back = omega (arith, cs .no-deeper, w .f-back); e-later = omega arith; f-later = omega arith;
+        next = v + 1;
+        some = omega arith;
+        few = omega arith;
+        e-inside = cr .inside;
+        f-inside = cs .inside;
+        e-back = omega (arith, cr .no-deeper, w .e-back);
+        f-back = omega (arith, cs .no-deeper, w .f-back);
+        e-later = omega arith;
+        f-later = omega arith;
         small = subst (λ (k : ℕ). code + 2 ^ (v - 1) < 2 ^ k) (sym up) (omega arith);
         apart = ne;
         e-is = λ ρ a. cr .value-is ρ (at ρ a) ∙ w .e-is ρ (old ρ a);
-        f-is = λ ρ a. cs .value-is ρ (at ρ a) ∙ w .f-is ρ (old ρ a) }
+        f-is = λ ρ a. cs .value-is ρ (at ρ a) ∙ w .f-is ρ (old ρ a);
+      }
 
   pub walk-low : (r₁ s₁ r s : ℕ) → Cofactor ns e v true r₁ → Cofactor ns f v true s₁ → r₁ ≡ s₁ → Cofactor ns e v false r → Cofactor ns f v false s → Walking n ns first second r s code
   walk-low r₁ s₁ r s cr₁ cs₁ eq cr cs =
@@ -121,23 +142,33 @@ module _ {n : ℕ} {ns : List Node} {first second e f code : ℕ} (good : Good n
       let later = cr .later in
       let later′ = cs .later in
       let same : r ≡ s → Same ns e ns f = λ z ρ. ⊎-elim
-        (λ t. sym (cr₁ .value-is ρ t) ∙ ap (eval ns ρ) eq ∙ cs₁ .value-is ρ t)
-        (λ t. sym (cr .value-is ρ t) ∙ ap (eval ns ρ) z ∙ cs .value-is ρ t)
-        (cases-bool (ρ v)) in
+      (λ t. sym (cr₁ .value-is ρ t) ∙ ap (eval ns ρ) eq ∙ cs₁ .value-is ρ t)
+      (λ t. sym (cr .value-is ρ t) ∙ ap (eval ns ρ) z ∙ cs .value-is ρ t)
+      (cases-bool (ρ v)) in
       record {
-        next = v + 1; some = omega arith; few = omega arith; e-inside = cr .inside; f-inside = cs .inside; e-back = omega (arith, cr .no-deeper, w .e-back); f-back = omega (arith, cs .no-deeper, w .f-back); e-later = omega arith; f-later = omega arith;
+        next = v + 1;
+        some = omega arith;
+        few = omega arith;
+        e-inside = cr .inside;
+        f-inside = cs .inside;
+        e-back = omega (arith, cr .no-deeper, w .e-back);
+        f-back = omega (arith, cs .no-deeper, w .f-back);
+        e-later = omega arith;
+        f-later = omega arith;
         small = subst (λ (k : ℕ). code < 2 ^ k) (sym up) (omega arith);
         apart = λ z. w .apart (same-edge ns e f good (w .e-inside) (w .f-inside) (same z));
         e-is = λ ρ a. cr .value-is ρ (at ρ a) ∙ w .e-is ρ (old ρ a);
-        f-is = λ ρ a. cs .value-is ρ (at ρ a) ∙ w .f-is ρ (old ρ a) }
+        f-is = λ ρ a. cs .value-is ρ (at ρ a) ∙ w .f-is ρ (old ρ a);
+      }
 
 apart-ends : (ns : List Node) (ρ : ℕ → Bool) (e f : ℕ) → e / 2 ≡ 0 → f / 2 ≡ 0 → (e ≡ f → ⊥) → eval ns ρ e ≡ not (eval ns ρ f)
 apart-ends ns ρ e f ez fz ne = elim (cases-eq e 0) [
-    inl z ↦ (let o : f ≡ 1 = omega (arith, fz, ap (λ (k : ℕ). k) z, other f (λ y. ne (z ∙ sym y)) fz) in
+  | inl z ↦ (let o : f ≡ 1 = omega (arith, fz, ap (λ (k : ℕ). k) z, other f (λ y. ne (z ∙ sym y)) fz) in
       ap (eval ns ρ) z ∙ eval-false ns ρ ∙ sym (ap not (ap (eval ns ρ) o ∙ eval-true ns ρ)))
   | inr z ↦ (let o : e ≡ 1 = other e z ez in
       let q : f ≡ 0 = elim (cases-eq f 0) [ inl y ↦ y | inr y ↦ absurd (ne (o ∙ sym (other f y fz))) ] in
-      ap (eval ns ρ) o ∙ eval-true ns ρ ∙ sym (ap not (ap (eval ns ρ) q ∙ eval-false ns ρ))) ]
+      ap (eval ns ρ) o ∙ eval-true ns ρ ∙ sym (ap not (ap (eval ns ρ) q ∙ eval-false ns ρ)))
+]
   where
     other : (x : ℕ) → (x ≡ 0 → ⊥) → x / 2 ≡ 0 → x ≡ 1
     other x a b = omega arith
@@ -148,6 +179,7 @@ walk-end n ns first second e f code w ez fz =
     let some = w .some in
     let few = w .few in
     let small = w .small in
-    let p = pow-le (w .next - 1) n (omega arith) in
-    (omega arith,
-     sym (w .e-is (assigned code) (λ u a b. refl)) ∙ apart-ends ns (assigned code) e f ez fz (w .apart) ∙ ap not (w .f-is (assigned code) (λ u a b. refl)))
+    let p = pow-le (w .next - 1) n (omega arith) in (
+      omega arith,
+      sym (w .e-is (assigned code) (λ u a b. refl)) ∙ apart-ends ns (assigned code) e f ez fz (w .apart) ∙ ap not (w .f-is (assigned code) (λ u a b. refl)),
+    )

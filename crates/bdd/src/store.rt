@@ -7,7 +7,6 @@ ghost use Prim.Native.Nat.{_<_, _≤_};
 ghost use lib.ListN.{length};
 ghost use Rattle.std.specs.Vec.{made};
 ghost use Rattle.bdd.specs.Sound.{Sound, nodesOf};
-
 use cache::Entry;
 use nodes::Node;
 use std::alloc::AllocError;
@@ -50,7 +49,12 @@ impl Table {
         let nodes = Vec::with_capacity(heap, limit)?;
         let next = Vec::with_capacity(heap, limit)?;
         let heads = vec![in heap; 0u32; limit]?;
-        let cache = vec![in heap; Entry { f: 0, g: 0, result: 0, stamp: 0 }; limit]?;
+        let cache = vec![in heap; Entry {
+            f: 0,
+            g: 0,
+            result: 0,
+            stamp: 0
+        }; limit]?;
         let marks = vec![in heap; false; limit]?;
         Ok(Table {
             nodes,

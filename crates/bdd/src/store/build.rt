@@ -9,7 +9,6 @@ ghost use Rattle.bdd.specs.Index.{Lacks};
 ghost use Rattle.bdd.specs.Steps.{Placed, Made, Short};
 ghost use Rattle.bdd.specs.Sound.{Sound, Kept, Full, nodesOf};
 ghost use Rattle.bdd.specs.Calls.{Built, Refused};
-
 use super::Table;
 use crate::edges::Edge;
 use crate::edges::FALSE;

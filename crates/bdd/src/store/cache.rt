@@ -7,7 +7,6 @@ ghost use Rattle.std.specs.Of.Vec.{vec-len, vec-items};
 ghost use Rattle.std.specs.Options.{Cases as BySome};
 ghost use Rattle.bdd.specs.Steps.{Both};
 ghost use Rattle.bdd.specs.Sound.{Sound, Kept, Right, Forgotten, entry, entryAt, nodesOf};
-
 use super::Table;
 use crate::edges::Edge;
 
@@ -68,7 +67,12 @@ impl Table {
     {
         let k = spot(self.cache.len(), f, g);
         let stamp = self.stamp;
-        self.cache[k] = Entry { f, g, result, stamp };
+        self.cache[k] = Entry {
+            f,
+            g,
+            result,
+            stamp,
+        };
     }
 
     // Forgets every conjunction, by a new stamp; when the stamps run out, the cache is wiped and they start again.

@@ -10,7 +10,6 @@ ghost use Rattle.bdd.specs.Parts.{conj};
 ghost use Rattle.bdd.specs.Steps.{Both, Parts, Lacking};
 ghost use Rattle.bdd.specs.Sound.{Sound, Kept, nodesOf};
 ghost use Rattle.bdd.specs.Calls.{Built, Refused};
-
 use super::Table;
 use crate::edges::Edge;
 use crate::edges::inverse;

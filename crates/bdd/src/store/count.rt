@@ -8,7 +8,6 @@ ghost use Rattle.bdd.specs.Size.{Ascending, sizeOf};
 ghost use Rattle.bdd.specs.Laws.{Inputs};
 ghost use Rattle.bdd.specs.Sound.{Sound, nodesOf};
 ghost use Rattle.bdd.specs.Calls.{Unchanged};
-
 use super::Table;
 use super::marking::count_marks;
 use super::marking::mark_diagram;

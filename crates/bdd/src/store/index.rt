@@ -9,7 +9,6 @@ ghost use Rattle.std.specs.Options.{Cases as BySome};
 ghost use Rattle.bdd.specs.Diagram.{node, nodeAt, Fits, Grown};
 ghost use Rattle.bdd.specs.Index.{bucketOf, Linked, Lacks};
 ghost use Rattle.bdd.specs.Sound.{Sound, Kept, Forgotten, nodesOf};
-
 use super::Table;
 use super::nodes::Node;
 use crate::edges::Edge;

@@ -5,7 +5,6 @@ ghost use Prim.Native.Nat.{ℕ, _/_, _<_, _≤_};
 ghost use lib.ListN.{length};
 ghost use Rattle.bdd.specs.Diagram.{nodeAt, Good};
 ghost use Rattle.bdd.specs.Marking.{at, withMark, tally, Marks};
-
 use super::nodes::Node;
 use crate::edges::Edge;
 

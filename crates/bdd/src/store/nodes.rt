@@ -1,7 +1,6 @@
 //! Nodes: a function that is chosen by one variable.
 ghost use mathlib.Core.Path.{_≡_};
 ghost use Rattle.bdd.specs.Diagram.{child as childOf};
-
 use crate::edges::Edge;
 
 /// The function that is `high` where the variable is true, and else `low`.

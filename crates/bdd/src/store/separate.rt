@@ -6,7 +6,6 @@ ghost use lib.ListN.{length};
 ghost use Rattle.bdd.specs.Diagram.{eval};
 ghost use Rattle.bdd.specs.Sound.{Sound, nodesOf};
 ghost use Rattle.bdd.specs.Codes.{assigned, OverInputs};
-
 use super::Table;
 use crate::edges::Edge;
 

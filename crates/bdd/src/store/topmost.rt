@@ -9,7 +9,6 @@ ghost use Rattle.bdd.specs.Marking.{at};
 ghost use Rattle.bdd.specs.Reading.{Ignores, Topmost, Least};
 ghost use Rattle.bdd.specs.Sound.{Sound, nodesOf};
 ghost use Rattle.bdd.specs.Calls.{Unchanged};
-
 use super::Table;
 use super::marking::mark_diagram;
 use super::nodes::Node;

@@ -5,7 +5,6 @@ ghost use lib.ListN.{length};
 ghost use Rattle.bdd.specs.Diagram.{top as firstVar, Good};
 ghost use Rattle.bdd.specs.Steps.{Cofactor};
 ghost use Rattle.bdd.specs.Sound.{nodesOf};
-
 use super::Table;
 use super::nodes::child;
 use crate::edges::Edge;
@@ -21,7 +20,11 @@ impl Table {
         ensures { λ r. ⌜ r ≡ firstVar (nodesOf (now (self .entry))) e ⌝ }
     {
         let i = (e / 2) as usize;
-        if i == 0 { NO_VAR } else { self.nodes[i - 1].var }
+        if i == 0 {
+            NO_VAR
+        } else {
+            self.nodes[i - 1].var
+        }
     }
 
     // What the edge's function is where `v` is fixed; `v` comes no later than the edge's first variable.

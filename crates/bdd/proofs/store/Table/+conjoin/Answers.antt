@@ -35,9 +35,9 @@ returns-then-f-eq0 t c =
     let ns : List Node = vec-items (c .args .self .now .nodes) in
     let inside : c .args .f / 2 ≤ length ns = search needs in
     let which : (c .args .f ≡ 0) ⊎ ((c .args .g ≡ 0) ⊎ (c .args .f ≡ flip (c .args .g))) = elim (c .then-f-eq0 .came) [
-      then-f-eq0·by·then-f-eq0 w ↦ inl (w .if-f-eq0 .taken)
-    | then-f-eq0·by·else-f-eq0·then-g-eq0 w ↦ inr (inl (w .if-g-eq0 .taken))
-    | then-f-eq0·by·else-f-eq0·else-g-eq0·then-f-inverse w ↦ inr (inr (w .if-f-inverse .taken ∙ w .inverse .ensures .value))
+      | then-f-eq0·by·then-f-eq0 w ↦ inl (w .if-f-eq0 .taken)
+      | then-f-eq0·by·else-f-eq0·then-g-eq0 w ↦ inr (inl (w .if-g-eq0 .taken))
+      | then-f-eq0·by·else-f-eq0·else-g-eq0·then-f-inverse w ↦ inr (inr (w .if-f-inverse .taken ∙ w .inverse .ensures .value))
     ] in
     record { kept = kept-self (c .args .self .now) (c .pre .sound); parts = news-none _ _ ns; cases = both-none ns (c .args .f) (c .args .g) (c .pre .sound .good) inside which }
 
@@ -160,10 +160,10 @@ remember-requires t c κs =
     let vis : v ≡ min (top ns (c .args .f)) (top ns (c .args .g)) = omega arith in
     let kept : Kept (c .args .self .now) (c .mk .last .self) = kept-on (c .args .self .now) (c .conjoin .last .self) (c .mk .last .self) k₁ (kept-on (c .conjoin .last .self) (c .conjoin-2 .last .self) (c .mk .last .self) k₂ k₃) in
     let both : Both ns n₃ (c .args .f) (c .args .g) (c .in-Some-mk .result) =
-      both-step ns n₁ n₂ n₃ (c .args .f) (c .args .g) v (c .cofactor-f-high .result) (c .cofactor-g-high .result) (c .cofactor-f-low .result) (c .cofactor-g-low .result) (c .in-Some-conjoin .high) (c .in-Some-conjoin-2 .low) (c .in-Some-mk .result)
-        (c .pre .sound .good) (k₁ .sound .good) (k₁ .grown) (k₂ .grown) vis
-        (c .cofactor-f-high .ensures) (c .cofactor-g-high .ensures) (c .cofactor-f-low .ensures) (c .cofactor-g-low .ensures)
-        (c .in-Some-conjoin .ensures tt .cases) (c .in-Some-conjoin-2 .ensures tt .cases) (c .in-Some-mk .ensures tt .cases) in
+    both-step ns n₁ n₂ n₃ (c .args .f) (c .args .g) v (c .cofactor-f-high .result) (c .cofactor-g-high .result) (c .cofactor-f-low .result) (c .cofactor-g-low .result) (c .in-Some-conjoin .high) (c .in-Some-conjoin-2 .low) (c .in-Some-mk .result)
+    (c .pre .sound .good) (k₁ .sound .good) (k₁ .grown) (k₂ .grown) vis
+    (c .cofactor-f-high .ensures) (c .cofactor-g-high .ensures) (c .cofactor-f-low .ensures) (c .cofactor-g-low .ensures)
+    (c .in-Some-conjoin .ensures tt .cases) (c .in-Some-conjoin-2 .ensures tt .cases) (c .in-Some-mk .ensures tt .cases) in
     let f-in : c .args .f / 2 ≤ length ns = search needs in
     let g-in : c .args .g / 2 ≤ length ns = search needs in
     record { sound = k₃ .sound; right = right-up ns n₃ (c .args .f) (c .args .g) (c .in-Some-mk .result) (c .mk .last .self .stamp) (c .pre .sound .good) (kept .grown) f-in g-in both }
@@ -195,9 +195,9 @@ returns t c =
     let bl = c .in-Some-conjoin-2 .ensures tt .cases in
     let kept : Kept (c .args .self .now) (c .mk .last .self) = kept-on (c .args .self .now) (c .conjoin .last .self) (c .mk .last .self) k₁ (kept-on (c .conjoin .last .self) (c .conjoin-2 .last .self) (c .mk .last .self) k₂ k₃) in
     let both : Both ns n₃ f g (c .in-Some-mk .result) =
-      both-step ns n₁ n₂ n₃ f g v fh gh fl gl (c .in-Some-conjoin .high) (c .in-Some-conjoin-2 .low) (c .in-Some-mk .result)
-        (c .pre .sound .good) (k₁ .sound .good) (k₁ .grown) (k₂ .grown) vis
-        (c .cofactor-f-high .ensures) (c .cofactor-g-high .ensures) (c .cofactor-f-low .ensures) (c .cofactor-g-low .ensures) bh bl made in
+    both-step ns n₁ n₂ n₃ f g v fh gh fl gl (c .in-Some-conjoin .high) (c .in-Some-conjoin-2 .low) (c .in-Some-mk .result)
+    (c .pre .sound .good) (k₁ .sound .good) (k₁ .grown) (k₂ .grown) vis
+    (c .cofactor-f-high .ensures) (c .cofactor-g-high .ensures) (c .cofactor-f-low .ensures) (c .cofactor-g-low .ensures) bh bl made in
     let parts : Parts ns n₃ f g = parts-three ns n₁ f g v fh gh fl gl (c .pre .sound .good) (k₁ .sound .good) (k₁ .grown) vis (c .cofactor-f-high .ensures) (c .cofactor-g-high .ensures) (c .cofactor-f-low .ensures) (c .cofactor-g-low .ensures) n₂ n₃ (c .in-Some-conjoin .high) (c .in-Some-conjoin-2 .low) (c .in-Some-mk .result) (k₂ .sound .good) (k₂ .grown) (k₃ .grown) f-in g-in (c .conjoin .ensures .parts) (c .conjoin-2 .ensures .parts) bh bl made in
     record {
       kept = kept-on (c .args .self .now) (c .mk .last .self) (c .remember .last .self) kept (c .remember .ensures .kept);

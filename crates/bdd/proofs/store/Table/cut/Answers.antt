@@ -21,12 +21,13 @@ loop-self-holds c =
 pub loop-self-again : need.loop-self-again
 loop-self-again c =
     let inv = c .loop-self .inv in
-    let u = c .unlink .ensures in
-    (u .sound,
+    let u = c .unlink .ensures in (
+      u .sound,
       omega (arith, u .len, c .loop-self-test .taken),
       u .limit ∙ inv .2,
       grown-on (nodesOf (c .unlink .last .self)) (nodesOf (c .loop-self .self)) (nodesOf (c .forget .last .self)) (u .nodes) (inv .3),
-      u .forgotten)
+      u .forgotten,
+    )
 
 pub unlink-requires : need.unlink-requires
 unlink-requires c κs =

@@ -26,8 +26,8 @@ loop-at-holds c =
     let lt : b < length hs = omega (arith, c .bucket .ensures .1) in
     let at : c .index .result .now ≡ getD hs b 0 = getD-read hs b (c .index .result .now) lt (c .index .ensures) 0 in
     subst (λ n. (c .index .result .now ≤ n) × (0 < c .index .result .now → bucketOf (length hs) (nodeAt ns (c .index .result .now - 1)) ≡ bucketOf (length hs) w) × ((k : ℕ) → k < n → nodeAt ns k ≡ w → k < c .index .result .now)) long
-      (subst (λ a. (a ≤ length ns) × (0 < a → bucketOf (length hs) (nodeAt ns (a - 1)) ≡ bucketOf (length hs) w) × ((k : ℕ) → k < length ns → nodeAt ns k ≡ w → k < a)) (sym at)
-        (chain-head (length hs) ns nx hs w (c .pre) b w is lt))
+    (subst (λ a. (a ≤ length ns) × (0 < a → bucketOf (length hs) (nodeAt ns (a - 1)) ≡ bucketOf (length hs) w) × ((k : ℕ) → k < length ns → nodeAt ns k ≡ w → k < a)) (sym at)
+    (chain-head (length hs) ns nx hs w (c .pre) b w is lt))
 
 pub loop-at-again : need.loop-at-again
 loop-at-again c =
@@ -45,11 +45,11 @@ loop-at-again c =
     let is : new ≡ getD nx (at - 1) 0 = getD-read nx (at - 1) new next-inside (c .index-in-loop-at .ensures) 0 in
     let read : c .index-n .result .now ≡ nodeAt ns (at - 1) = getD-read ns (at - 1) (c .index-n .result .now) inside (c .index-n .ensures) (node 0 0 0) in
     let ne : nodeAt ns (at - 1) ≡ w → ⊥ = λ e.
-      let same : c .index-n .result .now ≡ w = read ∙ e in
-      let sv = ap (λ n. n .var) same in
-      let sh = ap (λ n. n .high) same in
-      let sl = ap (λ n. n .low) same in
-      omega (arith, c .else-n-var .either) in
+    let same : c .index-n .result .now ≡ w = read ∙ e in
+    let sv = ap (λ n. n .var) same in
+    let sh = ap (λ n. n .high) same in
+    let sl = ap (λ n. n .low) same in
+    omega (arith, c .else-n-var .either) in
     subst (λ n. (new ≤ n) × (0 < new → bucketOf (length hs) (nodeAt ns (new - 1)) ≡ bucketOf (length hs) w) × ((k : ℕ) → k < n → nodeAt ns k ≡ w → k < new)) long
-      (subst (λ a. (a ≤ length ns) × (0 < a → bucketOf (length hs) (nodeAt ns (a - 1)) ≡ bucketOf (length hs) w) × ((k : ℕ) → k < length ns → nodeAt ns k ≡ w → k < a)) (sym is)
-        (chain-next (length hs) ns nx hs w (c .pre) at w pos (omega (arith, inv .0)) (inv .1 pos) ne (λ k h e. inv .2 k (omega arith) e)))
+    (subst (λ a. (a ≤ length ns) × (0 < a → bucketOf (length hs) (nodeAt ns (a - 1)) ≡ bucketOf (length hs) w) × ((k : ℕ) → k < length ns → nodeAt ns k ≡ w → k < a)) (sym is)
+    (chain-next (length hs) ns nx hs w (c .pre) at w pos (omega (arith, inv .0)) (inv .1 pos) ne (λ k h e. inv .2 k (omega arith) e)))

@@ -28,7 +28,7 @@ returns c =
     let before : c .index-before .result .now ≡ getD hs b 0 = getD-read hs b (c .index-before .result .now) blt (c .index-before .ensures) 0 in
     let items : vec-items (c .push-reserved-2 .last .self) ≡ ns ++ n ∷ [] = c .push-reserved-2 .ensures .items in
     let next-items : vec-items (c .push-reserved .last .self) ≡ nx ++ getD hs (bucketOf m n) 0 ∷ [] =
-      c .push-reserved .ensures .items ∙ ap (λ x. nx ++ x ∷ []) (before ∙ ap (λ k. getD hs k 0) bis) in
+    c .push-reserved .ensures .items ∙ ap (λ x. nx ++ x ∷ []) (before ∙ ap (λ k. getD hs k 0) bis) in
     let long : vec-len (c .args .self .now .nodes) ≡ length ns = search needs in
     let fits : Fits ns (length ns) n = subst (λ k. Fits ns k n) long (c .pre .fits) in
     let fresh : (k : ℕ) → k < length ns → nodeAt ns k ≡ n → ⊥ = λ k h. c .pre .fresh k (omega arith) in
@@ -39,9 +39,9 @@ returns c =
     let new-wide : m ≡ length (set hs b (c .len-2 .result)) = sym (length-set hs b (c .len-2 .result)) in
     let pushed = linked-push m ns nx hs n (s .linked) (subst (λ k. k < m) bis blt) in
     let linked : LinkedBy m (vec-items (c .push-reserved-2 .last .self)) (vec-items (c .push-reserved .last .self)) (set hs b (c .len-2 .result)) =
-      subst (λ x. LinkedBy m x (vec-items (c .push-reserved .last .self)) (set hs b (c .len-2 .result))) (sym items)
-        (subst (λ x. LinkedBy m (ns ++ n ∷ []) x (set hs b (c .len-2 .result))) (sym next-items)
-          (subst (λ x. LinkedBy m (ns ++ n ∷ []) (nx ++ getD hs (bucketOf m n) 0 ∷ []) x) (sym heads-are) pushed)) in
+    subst (λ x. LinkedBy m x (vec-items (c .push-reserved .last .self)) (set hs b (c .len-2 .result))) (sym items)
+    (subst (λ x. LinkedBy m (ns ++ n ∷ []) x (set hs b (c .len-2 .result))) (sym next-items)
+    (subst (λ x. LinkedBy m (ns ++ n ∷ []) (nx ++ getD hs (bucketOf m n) 0 ∷ []) x) (sym heads-are) pushed)) in
     record {
       kept = record {
         sound = record {

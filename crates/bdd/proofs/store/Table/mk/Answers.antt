@@ -27,9 +27,9 @@ returns-then-high-eq0 c =
     record {
       kept = kept;
       cases = cases-map (c .place .result) (Full (c .args .self .now) (c .place .last .self) × Lacks ns (node v h l)) (Full (c .args .self .now) (c .place .last .self) × Short ns v h l) (Placed ns ms (node v h l)) (Made ns ms v h l)
-        (λ p. (p .0, short-straight ns v h l (c .pre .sound .good) fits (p .1)))
-        (λ e p. made-straight ns ms v h l e (c .pre .sound .good) (kept .sound .good) (kept .grown) hin lin p)
-        (c .place .ensures .cases);
+          (λ p. (p .0, short-straight ns v h l (c .pre .sound .good) fits (p .1)))
+          (λ e p. made-straight ns ms v h l e (c .pre .sound .good) (kept .sound .good) (kept .grown) hin lin p)
+          (c .place .ensures .cases);
     }
 
 pub returns : need.returns
@@ -42,12 +42,12 @@ returns c =
     let l : ℕ = c .args .low in
     let e : ℕ = c .in-Some .e in
     let placed : Placed ns ms (node v (flip h) (flip l)) e =
-      subst (λ x. Placed ns ms (node v x (flip l)) e) (c .inverse .ensures .value)
-        (subst (λ x. Placed ns ms (node v (c .inverse .result) x) e) (c .inverse-2 .ensures .value) (c .in-Some .ensures tt .cases)) in
+    subst (λ x. Placed ns ms (node v x (flip l)) e) (c .inverse .ensures .value)
+    (subst (λ x. Placed ns ms (node v (c .inverse .result) x) e) (c .inverse-2 .ensures .value) (c .in-Some .ensures tt .cases)) in
     let hin : h / 2 ≤ length ns = search needs in
     let lin : l / 2 ≤ length ns = search needs in
     let made : Made ns ms v h l (flip e) =
-      made-flipped ns ms v h l e (made-straight ns ms v (flip h) (flip l) e (c .pre .sound .good) (kept .sound .good) (kept .grown) (omega (arith, flip-half h)) (omega (arith, flip-half l)) placed) in
+    made-flipped ns ms v h l e (made-straight ns ms v (flip h) (flip l) e (c .pre .sound .good) (kept .sound .good) (kept .grown) (omega (arith, flip-half h)) (omega (arith, flip-half l)) placed) in
     record { kept = kept; cases = subst (Made ns ms v h l) (sym (c .inverse-3 .ensures .value)) made }
 
 pub returns-in-rest : need.returns-in-rest
@@ -60,10 +60,13 @@ returns-in-rest c =
     let lin : l / 2 ≤ length ns = search needs in
     let cases = c .in-rest .ensures tt .cases in
     let lacks : Lacks ns (node v (flip h) (flip l)) =
-      subst (λ x. Lacks ns (node v x (flip l))) (c .inverse .ensures .value)
-        (subst (λ x. Lacks ns (node v (c .inverse .result) x)) (c .inverse-2 .ensures .value) (cases .1)) in
+    subst (λ x. Lacks ns (node v x (flip l))) (c .inverse .ensures .value)
+    (subst (λ x. Lacks ns (node v (c .inverse .result) x)) (c .inverse-2 .ensures .value) (cases .1)) in
     record {
       kept = c .place-2 .ensures .kept;
-      cases = (cases .0, short-flipped ns v h l (short-straight ns v (flip h) (flip l) (c .pre .sound .good)
-        (fits-flipped ns v h l (c .pre .bounded) hin lin (c .pre .high-later) (c .pre .low-later) (c .if-high-eq0 .left) (c .if-high-low .left)) lacks));
+      cases = (
+        cases .0,
+        short-flipped ns v h l (short-straight ns v (flip h) (flip l) (c .pre .sound .good)
+            (fits-flipped ns v h l (c .pre .bounded) hin lin (c .pre .high-later) (c .pre .low-later) (c .if-high-eq0 .left) (c .if-high-low .left)) lacks),
+      );
     }

@@ -30,18 +30,18 @@ returns c =
           linked = s .linked;
           cache-some = s .cache-some;
           stamped = λ j h.
-            let old : j < length es = omega (arith, length-set es k e) in
-            ⊎-elim
+              let old : j < length es = omega (arith, length-set es k e) in
+              ⊎-elim
               (λ eq. let own = ap (λ x. x .stamp) (ap (entryAt (set es k e)) eq ∙ getD-set-same es k e (entry 0 0 0 0) lt) in omega arith)
               (λ ne. let own = ap (λ x. x .stamp) (getD-set-other es k j e (entry 0 0 0 0) ne) in omega (arith, s .stamped j old))
               (cases-eq j k);
           cached = λ j h now-is.
-            let old : j < length es = omega (arith, length-set es k e) in
-            ⊎-elim
+              let old : j < length es = omega (arith, length-set es k e) in
+              ⊎-elim
               (λ eq. subst (Right ns) (sym (ap (entryAt (set es k e)) eq ∙ getD-set-same es k e (entry 0 0 0 0) lt)) (c .pre .right))
               (λ ne.
-                let same : entryAt (set es k e) j ≡ entryAt es j = getD-set-other es k j e (entry 0 0 0 0) ne in
-                subst (Right ns) (sym same) (s .cached j old (ap (λ x. x .stamp) (sym same) ∙ now-is)))
+              let same : entryAt (set es k e) j ≡ entryAt es j = getD-set-other es k j e (entry 0 0 0 0) ne in
+              subst (Right ns) (sym same) (s .cached j old (ap (λ x. x .stamp) (sym same) ∙ now-is)))
               (cases-eq j k);
           within = s .within;
           room = s .room;

@@ -27,7 +27,7 @@ loop-e-again-then-e-high-f-high c =
     let few = first-few (c .pre .sound .good) (c .pre .first-over) (c .pre .second-over) (c .loop-e .inv) v is one in
     let shl = one-shl (v - 1) 64 (omega (arith, c .pre .few, few, c .loop-e .inv .some, first-next (c .pre .sound .good) (c .pre .first-over) (c .pre .second-over) (c .loop-e .inv) v is one)) in
     subst (λ (k : ℕ). Walking (c .args .n) ns (c .args .first) (c .args .second) (c .cofactor-e-high .result) (c .cofactor-f-high .result) (c .loop-e .code + k)) (sym shl)
-      (walk-high (c .pre .sound .good) (c .pre .first-over) (c .pre .second-over) (c .loop-e .inv) v is one (c .cofactor-e-high .result) (c .cofactor-f-high .result) (c .cofactor-e-high .ensures) (c .cofactor-f-high .ensures) (c .if-e-high-f-high .taken))
+    (walk-high (c .pre .sound .good) (c .pre .first-over) (c .pre .second-over) (c .loop-e .inv) v is one (c .cofactor-e-high .result) (c .cofactor-f-high .result) (c .cofactor-e-high .ensures) (c .cofactor-f-high .ensures) (c .if-e-high-f-high .taken))
 
 pub loop-e-again : need.loop-e-again
 loop-e-again c =
@@ -36,7 +36,7 @@ loop-e-again c =
     let is : v ≡ min (top ns (c .loop-e .e)) (top ns (c .loop-e .f)) = c .min-v .ensures ∙ ap₂ min (c .top .ensures) (c .top-in-loop-e .ensures) in
     let one : (c .loop-e .e / 2 ≡ 0 → ⊥) ⊎ (c .loop-e .f / 2 ≡ 0 → ⊥) = elim (c .if-e-ne0 .came) [ then-e-ne0 w ↦ inl (w .if-e-ne0 .taken) | else-e-ne0·then-f-ne0 w ↦ inr (w .if-f-ne0 .taken) ] in
     walk-low (c .pre .sound .good) (c .pre .first-over) (c .pre .second-over) (c .loop-e .inv) v is one (c .cofactor-e-high .result) (c .cofactor-f-high .result) (c .cofactor-e .result) (c .cofactor-f .result)
-      (c .cofactor-e-high .ensures) (c .cofactor-f-high .ensures) (c .if-e-high-f-high .left) (c .cofactor-e .ensures) (c .cofactor-f .ensures)
+    (c .cofactor-e-high .ensures) (c .cofactor-f-high .ensures) (c .if-e-high-f-high .left) (c .cofactor-e .ensures) (c .cofactor-f .ensures)
 
 pub returns : need.returns
 returns c =

@@ -24,7 +24,7 @@ returns-in-rest c =
     record {
       same = record { sound = kept .sound; nodes = ap nodesOf (full .1); limit-is = kept .limit-is };
       too-many = refusal ns ns (λ ρ. ρ (c .args .v)) (c .args .self .now .limit) (lack .extra) (c .pre .sound .good) (grown-self ns) (omega (arith, full .0)) (lack .good)
-        (variable-parts ns (ns ++ lack .extra ∷ []) (c .args .v) (lack .result) (lack .made));
+          (variable-parts ns (ns ++ lack .extra ∷ []) (c .args .v) (lack .result) (lack .made));
     }
 
 pub returns : need.returns

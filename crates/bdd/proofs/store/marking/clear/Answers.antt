@@ -12,5 +12,5 @@ pub loop-k-again : need.loop-k-again
 loop-k-again c =
     let k = c .loop-k .k in
     below-more (λ j. at (set (c .loop-k .marks) k false) j ≡ false) k
-      (λ j h. getD-set-other (c .loop-k .marks) k j false false (λ e. omega arith) ∙ c .loop-k .inv j h)
-      (getD-set-same (c .loop-k .marks) k false false (omega arith))
+    (λ j h. getD-set-other (c .loop-k .marks) k j false false (λ e. omega arith) ∙ c .loop-k .inv j h)
+    (getD-set-same (c .loop-k .marks) k false false (omega arith))

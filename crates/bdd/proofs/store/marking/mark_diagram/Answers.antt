@@ -14,14 +14,16 @@ loop-i-holds c =
 
 pub loop-i-again-then-marks-i : need.loop-i-again-then-marks-i
 loop-i-again-then-marks-i c =
-    let room : c .args .e / 2 ≤ length (c .loop-i .marks) = search needs in
-    (omega (arith, c .loop-i .inv .0),
-      turn-marked (c .args .nodes .now) (c .args .e) (c .args .e / 2) (c .loop-i .i) (c .loop-i .marks) (c .mark-children .last .marks) (c .pre .good) (c .pre .within) room (c .loop-i-test .taken) (c .loop-i .inv .0) (c .loop-i .inv .1) (c .if-marks-i .taken) (c .mark-children .ensures))
+    let room : c .args .e / 2 ≤ length (c .loop-i .marks) = search needs in (
+      omega (arith, c .loop-i .inv .0),
+      turn-marked (c .args .nodes .now) (c .args .e) (c .args .e / 2) (c .loop-i .i) (c .loop-i .marks) (c .mark-children .last .marks) (c .pre .good) (c .pre .within) room (c .loop-i-test .taken) (c .loop-i .inv .0) (c .loop-i .inv .1) (c .if-marks-i .taken) (c .mark-children .ensures),
+    )
 
 pub loop-i-again : need.loop-i-again
-loop-i-again c =
-    (omega (arith, c .loop-i .inv .0),
-      turn-skipped (c .args .nodes .now) (c .args .e) (c .args .e / 2) (c .loop-i .i) (c .loop-i .marks) (c .loop-i-test .taken) (c .loop-i .inv .1) (c .if-marks-i .left))
+loop-i-again c = (
+  omega (arith, c .loop-i .inv .0),
+  turn-skipped (c .args .nodes .now) (c .args .e) (c .args .e / 2) (c .loop-i .i) (c .loop-i .marks) (c .loop-i-test .taken) (c .loop-i .inv .1) (c .if-marks-i .left),
+)
 
 pub returns : need.returns
 returns c =
