@@ -16,10 +16,10 @@ use Rattle.bdd.specs.Sound.{Sound, Kept}
 use Rattle.bdd.proofs.Values.{eval-false, eval-true, eval-flip, eval-kept, var-kept, grown-self, grown-on}
 
 pub kept-self : (t : Table) → Sound t → Kept t t
-kept-self t s = record { sound = s; grown = grown-self (vec-items (t .nodes)); limit-is = refl }
+kept-self t s = record { sound = s; grown = grown-self (vec-items (t .nodes)); limit-is = refl; marks-is = refl; images-is = refl }
 
 pub kept-on : (t u w : Table) → Kept t u → Kept u w → Kept t w
-kept-on t u w k l = record { sound = l .sound; grown = grown-on (vec-items (t .nodes)) (vec-items (u .nodes)) (vec-items (w .nodes)) (k .grown) (l .grown); limit-is = l .limit-is ∙ k .limit-is }
+kept-on t u w k l = record { sound = l .sound; grown = grown-on (vec-items (t .nodes)) (vec-items (u .nodes)) (vec-items (w .nodes)) (k .grown) (l .grown); limit-is = l .limit-is ∙ k .limit-is; marks-is = l .marks-is ∙ k .marks-is; images-is = l .images-is ∙ k .images-is }
 
 pub var-bound : (ns : List Node) (j : ℕ) → Good ns → j ≤ length ns → varAt ns j ≤ 4096
 var-bound ns zero good h = omega arith

@@ -11,3 +11,5 @@ pub mod Marks
 pub mod Marked
 pub mod Walks
 pub mod Reading
+pub mod Composing
+pub mod Images

@@ -75,13 +75,13 @@ find-mark T u m (suc n) = ⊎-elim
     (near-or-not (T n) u))
     (find-mark T u m n)
 
-distinct-known : (u : Fn) (us : List Fn) → known u us ≡ true → distinct (u ∷ us) ≡ distinct us
+pub distinct-known : (u : Fn) (us : List Fn) → known u us ≡ true → distinct (u ∷ us) ≡ distinct us
 distinct-known u us h = ap (λ b. cond b (distinct us) (suc (distinct us))) h
 
 distinct-new : (u : Fn) (us : List Fn) → known u us ≡ false → distinct (u ∷ us) ≡ suc (distinct us)
 distinct-new u us h = ap (λ b. cond b (distinct us) (suc (distinct us))) h
 
-known-of : (t : Fn) (us : List Fn) → Known t us → known t us ≡ true
+pub known-of : (t : Fn) (us : List Fn) → Known t us → known t us ≡ true
 known-of t [] k = absurd k
 known-of t (u ∷ us) (inl (inl e)) = or-left (same t u) (same t (opposite u) || known t us) (same-of t u e)
 known-of t (u ∷ us) (inl (inr e)) = or-right (same t u) (same t (opposite u) || known t us) (or-left (same t (opposite u)) (known t us) (same-of t (opposite u) e))

@@ -9,3 +9,4 @@ pub mod Marking
 pub mod Calls
 pub mod Codes
 pub mod Reading
+pub mod Composing

@@ -39,6 +39,7 @@ pub record Sound (t : Table) : Type 0 where
   pub room : t .limit ≤ vec-cap (t .nodes)
   pub next-room : t .limit ≤ vec-cap (t .next)
   pub marks-room : t .limit ≤ vec-len (t .marks)
+  pub images-room : t .limit ≤ vec-len (t .images)
   pub small : t .limit ≤ 16384
 
 -- no entry of the cache counts
@@ -50,6 +51,8 @@ pub record Kept (t u : Table) : Type 0 where
   pub sound : Sound u
   pub grown : Grown (vec-items (t .nodes)) (vec-items (u .nodes))
   pub limit-is : u .limit ≡ t .limit
+  pub marks-is : u .marks ≡ t .marks
+  pub images-is : u .images ≡ t .images
 
 -- a full table, that is as it was
 abbrev pub Full : Table → Table → Type 0

@@ -1,4 +1,4 @@
-//! The table of nodes, with its scratch: an index to find a node by, a cache of conjunctions, and marks.
+//! The table of nodes, with its scratch: an index to find a node by, a cache of conjunctions, marks, and images.
 //!
 //! The fields are private, so a table is sound from its making on.
 ghost use mathlib.Core.Path.{_≡_};
@@ -7,6 +7,7 @@ ghost use Prim.Native.Nat.{_<_, _≤_};
 ghost use lib.ListN.{length};
 ghost use Rattle.std.specs.Vec.{made};
 ghost use Rattle.bdd.specs.Sound.{Sound, nodesOf};
+use crate::edges::Edge;
 use cache::Entry;
 use nodes::Node;
 use std::alloc::AllocError;
@@ -14,6 +15,7 @@ use std::alloc::Global;
 
 mod build;
 pub mod cache;
+pub mod compose;
 mod conjunction;
 mod count;
 mod cut;
@@ -36,6 +38,7 @@ pub struct Table {
     cache: Vec<Entry>,
     stamp: u32,
     marks: Vec<bool>,
+    images: Vec<Edge>,
     limit: usize,
 }
 
@@ -56,6 +59,7 @@ impl Table {
             stamp: 0
         }; limit]?;
         let marks = vec![in heap; false; limit]?;
+        let images = vec![in heap; 0u32; limit]?;
         Ok(Table {
             nodes,
             next,
@@ -63,6 +67,7 @@ impl Table {
             cache,
             stamp: 1,
             marks,
+            images,
             limit,
         })
     }

@@ -10,6 +10,8 @@ ghost use Rattle.bdd.specs.Parts.{conj};
 ghost use Rattle.bdd.specs.Steps.{Both, Parts, Lacking};
 ghost use Rattle.bdd.specs.Sound.{Sound, Kept, nodesOf};
 ghost use Rattle.bdd.specs.Calls.{Built, Refused};
+ghost use Rattle.bdd.specs.Composing.{Is, Still, Extends, Denotes};
+ghost use Rattle.bdd.specs.Laws.{TooMany};
 use super::Table;
 use crate::edges::Edge;
 use crate::edges::inverse;
@@ -51,6 +53,21 @@ impl Table {
             return None;
         };
         self.remember(f, g, result);
+        Some(result)
+    }
+
+    // The same, where a new node and what is wanting are said in terms of the function.
+    pub(super) fn meet(&mut self, f: Edge, g: Edge) -> Option<Edge>
+        requires sound { ⌜ Sound (now self) ⌝ }
+        requires f_within { ⌜ f / 2 ≤ length (nodesOf (now self)) ⌝ }
+        requires g_within { ⌜ g / 2 ≤ length (nodesOf (now self)) ⌝ }
+        ensures still { λ _. ⌜ Still (now (self .entry)) (now (self .exit)) ⌝ }
+        ensures extends { λ _. ⌜ Extends (λ φ. Is φ (conj (nodesOf (now (self .entry))) f g)) (now (self .entry)) (now (self .exit)) ⌝ }
+        ensures cases { λ r. ⌜ BySome r (TooMany (nodesOf (now (self .entry))) (now (self .entry) .limit) (conj (nodesOf (now (self .entry))) f g)) (λ e. Denotes (nodesOf (now (self .exit))) e (conj (nodesOf (now (self .entry))) f g)) ⌝ }
+    {
+        let Some(result) = self.conjoin(f, g) else {
+            return None;
+        };
         Some(result)
     }
 

@@ -28,10 +28,13 @@ returns-then-self c =
           room = s .room;
           next-room = s .next-room;
           marks-room = s .marks-room;
+          images-room = s .images-room;
           small = s .small;
         };
         grown = grown-self (nodesOf (c .args .self .now));
         limit-is = refl;
+        marks-is = refl;
+        images-is = refl;
       };
       nodes = refl;
       forgotten = λ k h. omega (arith, none k h);
@@ -52,10 +55,13 @@ returns-else-self c =
           room = s .room;
           next-room = s .next-room;
           marks-room = s .marks-room;
+          images-room = s .images-room;
           small = s .small;
         };
         grown = grown-self (nodesOf (c .args .self .now));
         limit-is = refl;
+        marks-is = refl;
+        images-is = refl;
       };
       nodes = refl;
       forgotten = λ k h. omega (arith, s .stamped k h);

@@ -54,10 +54,13 @@ returns c =
           room = omega (arith, c .push-reserved-2 .ensures .capacity, s .room);
           next-room = omega (arith, c .push-reserved .ensures .capacity, s .next-room);
           marks-room = s .marks-room;
+          images-room = s .images-room;
           small = s .small;
         };
         grown = grown;
         limit-is = refl;
+        marks-is = refl;
+        images-is = refl;
       };
       items = items;
     }

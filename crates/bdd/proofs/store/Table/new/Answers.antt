@@ -39,6 +39,7 @@ returns c =
         room = nodes .1 .1;
         next-room = next .1 .1;
         marks-room = omega (arith, c .in-Continue-marks .ensures tt .made .1);
+        images-room = omega (arith, c .in-Continue-images .ensures tt .made .1);
         small = c .pre .small;
       },
       nodes .0,

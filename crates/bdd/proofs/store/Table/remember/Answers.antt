@@ -47,10 +47,13 @@ returns c =
           room = s .room;
           next-room = s .next-room;
           marks-room = s .marks-room;
+          images-room = s .images-room;
           small = s .small;
         };
         grown = grown-self ns;
         limit-is = refl;
+        marks-is = refl;
+        images-is = refl;
       };
       nodes = refl;
     }
