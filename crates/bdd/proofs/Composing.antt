@@ -52,7 +52,7 @@ among-covered : (vs : List ℕ) (φ : (ℕ → Bool) → Bool) (φs : List ((ℕ
 among-covered vs φ [] a = absurd a
 among-covered vs φ (ψ ∷ φs) (inl is) =
     subst (λ χ. Covers (parts (table vs φ (λ _. false))) (parts (table vs χ (λ _. false)) ++ all-parts vs φs)) (fun-ext is)
-      (covers-left (parts (table vs φ (λ _. false))) (parts (table vs φ (λ _. false))) (all-parts vs φs) (covers-self (parts (table vs φ (λ _. false)))))
+    (covers-left (parts (table vs φ (λ _. false))) (parts (table vs φ (λ _. false))) (all-parts vs φs) (covers-self (parts (table vs φ (λ _. false)))))
 among-covered vs φ (ψ ∷ φs) (inr a) = covers-right (parts (table vs φ (λ _. false))) (parts (table vs ψ (λ _. false))) (all-parts vs φs) (among-covered vs φ φs a)
 
 among-held : (ns : List Node) (vs : List ℕ) (i : ℕ) (φ : (ℕ → Bool) → Bool) (φs : List ((ℕ → Bool) → Bool)) → Among φ φs → Only vs φ → PartOf ns φ i → Held ns vs i φs
@@ -74,15 +74,15 @@ room-before S t u limit good x none vs φs asc vars held steps =
     let ns : List Node = nodesOf t in
     let ms : List Node = nodesOf u in
     none vs φs asc
-      (λ i h. ⊎-elim
-        (λ lt. subst (λ n. In (n .var) vs) (sym (x .grown .kept i lt)) (vars i lt))
-        (λ ge. let p = x .parts i ge h in part-input ms vs (p .step) i (x .sound .good) h (steps (p .step) (p .is-step) .1) (p .part))
-        (cases-lt i (length ns)))
-      (λ i h. ⊎-elim
-        (λ lt. held-kept ns ms vs i φs good (x .grown) lt (held i lt))
-        (λ ge. let p = x .parts i ge h in let a = steps (p .step) (p .is-step) in among-held ms vs i (p .step) φs (a .0) (a .1) (p .part))
-        (cases-lt i (length ns)))
-      steps
+    (λ i h. ⊎-elim
+    (λ lt. subst (λ n. In (n .var) vs) (sym (x .grown .kept i lt)) (vars i lt))
+    (λ ge. let p = x .parts i ge h in part-input ms vs (p .step) i (x .sound .good) h (steps (p .step) (p .is-step) .1) (p .part))
+    (cases-lt i (length ns)))
+    (λ i h. ⊎-elim
+    (λ lt. held-kept ns ms vs i φs good (x .grown) lt (held i lt))
+    (λ ge. let p = x .parts i ge h in let a = steps (p .step) (p .is-step) in among-held ms vs i (p .step) φs (a .0) (a .1) (p .part))
+    (cases-lt i (length ns)))
+    steps
 
 pub extends-self : (S : ((ℕ → Bool) → Bool) → Type 0) (t : Table) → Sound t → Extends S t t
 extends-self S t s = record { sound = s; limit-is = refl; grown = grown-self (nodesOf t); parts = λ i a b. absurd (omega arith) }
@@ -101,9 +101,9 @@ extends-on S t u w x y = record {
   limit-is = y .limit-is ∙ x .limit-is;
   grown = grown-on (nodesOf t) (nodesOf u) (nodesOf w) (x .grown) (y .grown);
   parts = λ i a b. ⊎-elim
-    (λ lt. let p = x .parts i a lt in record { step = p .step; is-step = p .is-step; part = part-kept (nodesOf u) (nodesOf w) (p .step) i (x .sound .good) (y .grown) lt (p .part) })
-    (λ ge. y .parts i ge b)
-    (cases-lt i (length (nodesOf u)));
+      (λ lt. let p = x .parts i a lt in record { step = p .step; is-step = p .is-step; part = part-kept (nodesOf u) (nodesOf w) (p .step) i (x .sound .good) (y .grown) lt (p .part) })
+      (λ ge. y .parts i ge b)
+      (cases-lt i (length (nodesOf u)));
 }
 
 pub still-on : (t u w : Table) → Still t u → Still u w → Still t w
@@ -125,18 +125,18 @@ neither-is false h false = refl
 
 -- the second half of a choice
 pub half-is : (ns n₁ : List Node) (test low nt : ℕ) → Good ns → Grown ns n₁ → test / 2 ≤ length ns → low / 2 ≤ length ns → nt ≡ flip test
-  → Is (conj n₁ nt low) (λ ρ. not (eval ns ρ test) && eval ns ρ low)
+    → Is (conj n₁ nt low) (λ ρ. not (eval ns ρ test) && eval ns ρ low)
 half-is ns n₁ test low nt good grown in-t in-l is ρ =
     ap₂ _&&_ (ap (eval n₁ ρ) is ∙ eval-flip n₁ ρ test ∙ ap not (eval-kept ns n₁ ρ test good grown in-t)) (eval-kept ns n₁ ρ low good grown in-l)
 
 -- the choice, inverted
 pub neither-half : (ns n₁ n₂ : List Node) (test high low one other n-one n-other : ℕ) → Good n₁ → Grown n₁ n₂ → n-one ≡ flip one → n-other ≡ flip other
-  → Denotes n₁ one (λ ρ. eval ns ρ test && eval ns ρ high) → Denotes n₂ other (λ ρ. not (eval ns ρ test) && eval ns ρ low)
-  → Is (conj n₂ n-one n-other) (λ ρ. not (choice (λ τ. eval ns τ test) (λ τ. eval ns τ high) (λ τ. eval ns τ low) ρ))
+    → Denotes n₁ one (λ ρ. eval ns ρ test && eval ns ρ high) → Denotes n₂ other (λ ρ. not (eval ns ρ test) && eval ns ρ low)
+    → Is (conj n₂ n-one n-other) (λ ρ. not (choice (λ τ. eval ns τ test) (λ τ. eval ns τ high) (λ τ. eval ns τ low) ρ))
 neither-half ns n₁ n₂ test high low one other n-one n-other good₁ grown is-one is-other d₁ d₂ ρ =
     ap₂ _&&_
-      (ap (eval n₂ ρ) is-one ∙ eval-flip n₂ ρ one ∙ ap not (eval-kept n₁ n₂ ρ one good₁ grown (d₁ .inside) ∙ d₁ .value-is ρ))
-      (ap (eval n₂ ρ) is-other ∙ eval-flip n₂ ρ other ∙ ap not (d₂ .value-is ρ))
+    (ap (eval n₂ ρ) is-one ∙ eval-flip n₂ ρ one ∙ ap not (eval-kept n₁ n₂ ρ one good₁ grown (d₁ .inside) ∙ d₁ .value-is ρ))
+    (ap (eval n₂ ρ) is-other ∙ eval-flip n₂ ρ other ∙ ap not (d₂ .value-is ρ))
     ∙ neither-is (eval ns ρ test) (eval ns ρ high) (eval ns ρ low)
 
 pub turned-over : (ns : List Node) (e r : ℕ) (φ : (ℕ → Bool) → Bool) → r ≡ flip e → Denotes ns e (λ ρ. not (φ ρ)) → Denotes ns r φ

@@ -40,7 +40,7 @@ carried-denotes ns ms images v g e d =
     }
 
 pub place-denotes : (ns ms : List Node) (images : List ℕ) (m : ℕ → Bool) (v g j i : ℕ) → j ≤ i → Marked m j
-  → ((k : ℕ) → k < i → m k ≡ true → Denotes ms (getD images k 0) (composed ns v g (2 * (k + 1)))) → Denotes ms (imageAt images j) (composed ns v g (2 * j))
+    → ((k : ℕ) → k < i → m k ≡ true → Denotes ms (getD images k 0) (composed ns v g (2 * (k + 1)))) → Denotes ms (imageAt images j) (composed ns v g (2 * j))
 place-denotes ns ms images m v g zero i le mark done = record { inside = omega arith; value-is = λ ρ. eval-false ms ρ ∙ sym (eval-false ns (upd ρ v (eval ns ρ g))) }
 place-denotes ns ms images m v g (suc k) i le mark done =
     let up : 2 * (k + 1) ≡ 2 * suc k = omega arith in
@@ -59,11 +59,11 @@ node-choice ns ρ i good h =
     let n : Node = nodeAt ns i in
     let half : 2 * (i + 1) / 2 ≡ suc i = omega arith in
     let at : (b : Bool) → ρ (n .var) ≡ b → eval ns ρ (2 * (i + 1)) ≡ eval ns ρ (child n b) = λ b is.
-      eval-child ns ρ (2 * (i + 1)) i b good half h is ∙ turned-even (2 * (i + 1)) (eval ns ρ (child n b)) (omega arith) in
+    eval-child ns ρ (2 * (i + 1)) i b good half h is ∙ turned-even (2 * (i + 1)) (eval ns ρ (child n b)) (omega arith) in
     ⊎-elim
-      (λ t. ap (λ b. cond b (eval ns ρ (n .high)) (eval ns ρ (n .low))) t ∙ sym (at true t))
-      (λ f. ap (λ b. cond b (eval ns ρ (n .high)) (eval ns ρ (n .low))) f ∙ sym (at false f))
-      (cases-bool (ρ (n .var)))
+    (λ t. ap (λ b. cond b (eval ns ρ (n .high)) (eval ns ρ (n .low))) t ∙ sym (at true t))
+    (λ f. ap (λ b. cond b (eval ns ρ (n .high)) (eval ns ρ (n .low))) f ∙ sym (at false f))
+    (cases-bool (ρ (n .var)))
 
 pub choice-like : (T H L T′ H′ L′ : (ℕ → Bool) → Bool) → Is T T′ → Is H H′ → Is L L′ → Is (choice T H L) (choice T′ H′ L′)
 choice-like T H L T′ H′ L′ a b c ρ = ap (λ x. cond x (H ρ) (L ρ)) (a ρ) ∙ ap (λ x. cond (T′ ρ) x (L ρ)) (b ρ) ∙ ap (λ x. cond (T′ ρ) (H′ ρ) x) (c ρ)
@@ -91,15 +91,15 @@ step-kept ns ms v g i good grown in-g h φ s =
     let s′ : P n = subst P (grown .kept i h) s in
     let a : Is (tested ms v g (n .var)) (tested ns v g (n .var)) = tested-kept ns ms v g (n .var) good grown in-g in
     ⊎-elim
-      (λ is. inl (λ ρ. is ρ ∙ a ρ))
-      (λ st. inr (choice-step (tested ms v g (n .var)) (composed ms v g (n .high)) (composed ms v g (n .low)) (tested ns v g (n .var)) (composed ns v g (n .high)) (composed ns v g (n .low)) a
-        (composed-kept ns ms v g (n .high) good grown in-g (omega arith)) (composed-kept ns ms v g (n .low) good grown in-g (omega arith)) φ st))
-      s′
+    (λ is. inl (λ ρ. is ρ ∙ a ρ))
+    (λ st. inr (choice-step (tested ms v g (n .var)) (composed ms v g (n .high)) (composed ms v g (n .low)) (tested ns v g (n .var)) (composed ns v g (n .high)) (composed ns v g (n .low)) a
+    (composed-kept ns ms v g (n .high) good grown in-g (omega arith)) (composed-kept ns ms v g (n .low) good grown in-g (omega arith)) φ st))
+    s′
 
 -- the images of a marked node's children, in terms of the present nodes
 pub child-image : (ns ms : List Node) (images : List ℕ) (m : ℕ → Bool) (f v g i n : ℕ) (b : Bool) → Good ns → Grown ns ms → g / 2 ≤ length ns → n ≤ length ns → i < n → Marks ns f n 0 m → m i ≡ true
-  → ((k : ℕ) → k < i → m k ≡ true → Denotes ms (getD images k 0) (composed ns v g (2 * (k + 1))))
-  → Denotes ms (carried images (child (nodeAt ms i) b)) (composed ms v g (child (nodeAt ms i) b))
+    → ((k : ℕ) → k < i → m k ≡ true → Denotes ms (getD images k 0) (composed ns v g (2 * (k + 1))))
+    → Denotes ms (carried images (child (nodeAt ms i) b)) (composed ms v g (child (nodeAt ms i) b))
 child-image ns ms images m f v g i n b good grown in-g in-n lt marks mark done =
     let x : Node = nodeAt ns i in
     let cf = child-fits ns i x b (good .fits i (omega arith)) in
@@ -111,24 +111,24 @@ child-image ns ms images m f v g i n b good grown in-g in-n lt marks mark done =
     let d : Denotes ms (carried images e) (composed ns v g e) = carried-denotes ns ms images v g e (place-denotes ns ms images m v g (e / 2) i back marked done) in
     let up : Is (composed ns v g e) (composed ms v g e) = λ ρ. sym (composed-kept ns ms v g e good grown in-g (omega arith) ρ) in
     subst (λ y. Denotes ms (carried images (child y b)) (composed ms v g (child y b))) (sym (grown .kept i (omega arith)))
-      (record { inside = d .inside; value-is = λ ρ. d .value-is ρ ∙ up ρ })
+    (record { inside = d .inside; value-is = λ ρ. d .value-is ρ ∙ up ρ })
 
 -- one image more
 pub images-more : (ns ms ms′ : List Node) (images : List ℕ) (m : ℕ → Bool) (v g i e : ℕ) → Good ns → Good ms → Grown ns ms → Grown ms ms′ → g / 2 ≤ length ns → i < length ns → i < length images
-  → Denotes ms′ e (composed ms v g (2 * (i + 1)))
-  → ((k : ℕ) → k < i → m k ≡ true → Denotes ms (getD images k 0) (composed ns v g (2 * (k + 1))))
-  → (k : ℕ) → k < i + 1 → m k ≡ true → Denotes ms′ (getD (set images i e) k 0) (composed ns v g (2 * (k + 1)))
+    → Denotes ms′ e (composed ms v g (2 * (i + 1)))
+    → ((k : ℕ) → k < i → m k ≡ true → Denotes ms (getD images k 0) (composed ns v g (2 * (k + 1))))
+    → (k : ℕ) → k < i + 1 → m k ≡ true → Denotes ms′ (getD (set images i e) k 0) (composed ns v g (2 * (k + 1)))
 images-more ns ms ms′ images m v g i e good good′ grown grown′ in-g h room d done k lt mark = ⊎-elim
     (λ is.
-      let here : getD (set images i e) k 0 ≡ e = ap (λ j. getD (set images i e) j 0) is ∙ getD-set-same images i e 0 room in
-      let old : Is (composed ms v g (2 * (i + 1))) (composed ns v g (2 * (i + 1))) = composed-kept ns ms v g (2 * (i + 1)) good grown in-g (omega arith) in
-      subst (λ x. Denotes ms′ x (composed ns v g (2 * (k + 1)))) (sym here)
-        (subst (λ j. Denotes ms′ e (composed ns v g (2 * (j + 1)))) (sym is) (record { inside = d .inside; value-is = λ ρ. d .value-is ρ ∙ old ρ })))
+    let here : getD (set images i e) k 0 ≡ e = ap (λ j. getD (set images i e) j 0) is ∙ getD-set-same images i e 0 room in
+    let old : Is (composed ms v g (2 * (i + 1))) (composed ns v g (2 * (i + 1))) = composed-kept ns ms v g (2 * (i + 1)) good grown in-g (omega arith) in
+    subst (λ x. Denotes ms′ x (composed ns v g (2 * (k + 1)))) (sym here)
+    (subst (λ j. Denotes ms′ e (composed ns v g (2 * (j + 1)))) (sym is) (record { inside = d .inside; value-is = λ ρ. d .value-is ρ ∙ old ρ })))
     (λ ne.
-      let there : getD (set images i e) k 0 ≡ getD images k 0 = getD-set-other images i k e 0 ne in
-      let q = done k (omega arith) mark in
-      let longer = grown′ .longer in
-      let inside = q .inside in
-      subst (λ x. Denotes ms′ x (composed ns v g (2 * (k + 1)))) (sym there)
-        (record { inside = omega arith; value-is = λ ρ. eval-kept ms ms′ ρ (getD images k 0) good′ grown′ (q .inside) ∙ q .value-is ρ }))
+    let there : getD (set images i e) k 0 ≡ getD images k 0 = getD-set-other images i k e 0 ne in
+    let q = done k (omega arith) mark in
+    let longer = grown′ .longer in
+    let inside = q .inside in
+    subst (λ x. Denotes ms′ x (composed ns v g (2 * (k + 1)))) (sym there)
+    (record { inside = omega arith; value-is = λ ρ. eval-kept ms ms′ ρ (getD images k 0) good′ grown′ (q .inside) ∙ q .value-is ρ }))
     (cases-eq k i)

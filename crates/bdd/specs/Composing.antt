@@ -31,7 +31,7 @@ Among φ (ψ ∷ ψs) = Is φ ψ ⊎ Among φ ψs
 -- more parts, each counted once, than the limit.
 abbrev pub NoRoom : (((ℕ → Bool) → Bool) → Type 0) → List Node → ℕ → Type 0
 NoRoom S ns limit = (vs : List ℕ) (φs : List ((ℕ → Bool) → Bool)) → Ascending vs → Inputs ns vs → ((i : ℕ) → i < length ns → Held ns vs i φs)
-  → ((φ : (ℕ → Bool) → Bool) → S φ → Among φ φs × Only vs φ) → limit < sizeOfAll vs φs
+    → ((φ : (ℕ → Bool) → Bool) → S φ → Among φ φs × Only vs φ) → limit < sizeOfAll vs φs
 
 pub record Denotes (ns : List Node) (e : ℕ) (φ : (ℕ → Bool) → Bool) : Type 0 where
   pub inside : e / 2 ≤ length ns

@@ -14,13 +14,13 @@ use std::alloc::AllocError;
 use std::alloc::Global;
 
 mod build;
-pub mod cache;
-pub mod compose;
+mod cache;
+mod compose;
 mod conjunction;
 mod count;
 mod cut;
-pub mod index;
-pub mod marking;
+mod index;
+mod marking;
 pub mod nodes;
 mod separate;
 mod topmost;
@@ -29,7 +29,8 @@ mod walk;
 /// A bounded table of nodes.
 ///
 /// `heads` has, for each bucket, the place of its last node, and `next` for each node the place of the one before it in
-/// its bucket; 0 ends a bucket. An entry of the cache counts only under the present stamp.
+/// its bucket; 0 ends a bucket. An entry of the cache counts only under the present stamp. `marks` and `images` have a
+/// place for each node, and hold nothing between calls.
 #[derive(Drop)]
 pub struct Table {
     nodes: Vec<Node>,

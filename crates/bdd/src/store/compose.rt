@@ -14,7 +14,6 @@ ghost use Rattle.bdd.specs.Laws.{TooMany};
 ghost use Rattle.bdd.specs.Sound.{Sound, nodesOf};
 ghost use Rattle.bdd.specs.Calls.{Unchanged};
 ghost use Rattle.bdd.specs.Composing.{Is, Still, Extends, Denotes, NoRoom, ChoiceStep, choice, tested, composed, NodeStep, ComposeStep, carried};
-
 use super::Table;
 use super::marking::mark_diagram;
 use crate::edges::Edge;
@@ -29,7 +28,11 @@ fn carry(images: &[Edge], e: Edge) -> Edge
 {
     let place = (e / 2) as usize;
     let straight = if place == 0 { FALSE } else { images[place - 1] };
-    if e % 2 == 0 { straight } else { inverse(straight) }
+    if e % 2 == 0 {
+        straight
+    } else {
+        inverse(straight)
+    }
 }
 
 impl Table {

@@ -59,7 +59,7 @@ returns-in-rest-meet c =
       still = s₁₂;
       extends = x₁₂;
       cases = room-before S t t₁ (t .limit) good x₁ (room-refused S n₁ (t .limit) (conj n₁ nt (c .args .low)) (inr (inl is₂))
-        (subst (λ k. TooMany n₁ k (conj n₁ nt (c .args .low))) (x₁ .limit-is) (c .in-rest-meet .ensures tt .cases)));
+          (subst (λ k. TooMany n₁ k (conj n₁ nt (c .args .low))) (x₁ .limit-is) (c .in-rest-meet .ensures tt .cases)));
     }
 
 pub returns-in-rest-meet-2 : need.returns-in-rest-meet-2
@@ -96,7 +96,7 @@ returns-in-rest-meet-2 c =
       still = s;
       extends = x;
       cases = room-before S t t₂ (t .limit) good x₁₂ (room-refused S n₂ (t .limit) φ₃ (inr (inr is₃))
-        (subst (λ k. TooMany n₂ k φ₃) (x₁₂ .limit-is) (c .in-rest-meet-2 .ensures tt .cases)));
+          (subst (λ k. TooMany n₂ k φ₃) (x₁₂ .limit-is) (c .in-rest-meet-2 .ensures tt .cases)));
     }
 
 pub returns : need.returns
@@ -133,5 +133,5 @@ returns c =
       still = s;
       extends = x;
       cases = turned-over n₃ (c .in-Some-meet-2 .neither) (c .inverse-4 .result) (choice T H L) (c .inverse-4 .ensures .value)
-        (denotes-is n₃ (c .in-Some-meet-2 .neither) φ₃ (λ ρ. not (choice T H L ρ)) is₃ (c .in-Some-meet-2 .ensures tt .cases));
+          (denotes-is n₃ (c .in-Some-meet-2 .neither) φ₃ (λ ρ. not (choice T H L ρ)) is₃ (c .in-Some-meet-2 .ensures tt .cases));
     }

@@ -25,17 +25,20 @@ returns-then-map-diagram c =
     let u : Table = c .map-diagram .last .self in
     let x = c .map-diagram .ensures .extends in
     let f : ℕ = c .args .f in
-    let is : c .carry .result ≡ carried (vec-items (u .images)) f = c .carry .ensures ∙ ap (λ xs. carried xs f) (c .deref .ensures .value) in
-    (record { sound = x .sound; limit-is = x .limit-is; grown = x .grown; parts = x .parts },
-      subst (λ r. Denotes (nodesOf u) r (composed (nodesOf (c .args .self .now)) (c .args .v) (c .args .g) f)) (sym is) (c .if-map-diagram .ensures tt .cases))
+    let is : c .carry .result ≡ carried (vec-items (u .images)) f = c .carry .ensures ∙ ap (λ xs. carried xs f) (c .deref .ensures .value) in (
+      record { sound = x .sound; limit-is = x .limit-is; grown = x .grown; parts = x .parts },
+      subst (λ r. Denotes (nodesOf u) r (composed (nodesOf (c .args .self .now)) (c .args .v) (c .args .g) f)) (sym is) (c .if-map-diagram .ensures tt .cases),
+    )
 
 pub returns : need.returns
 returns c =
     let ns : List Node = nodesOf (c .args .self .now) in
     let x = c .map-diagram .ensures .extends in
-    let mark : length ns ≡ c .len-mark .result = search needs in
-    (record {
-      sound = c .cut .ensures .sound;
-      nodes = c .cut .ensures .nodes ∙ sym (grown-take ns (nodesOf (c .map-diagram .last .self)) (c .len-mark .result) mark (x .grown));
-      limit-is = c .cut .ensures .limit ∙ x .limit-is;
-    }, c .if-map-diagram .ensures tt .cases)
+    let mark : length ns ≡ c .len-mark .result = search needs in (
+      record {
+        sound = c .cut .ensures .sound;
+        nodes = c .cut .ensures .nodes ∙ sym (grown-take ns (nodesOf (c .map-diagram .last .self)) (c .len-mark .result) mark (x .grown));
+        limit-is = c .cut .ensures .limit ∙ x .limit-is;
+      },
+      c .if-map-diagram .ensures tt .cases,
+    )

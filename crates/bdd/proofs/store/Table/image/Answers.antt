@@ -97,7 +97,7 @@ returns-in-rest-choose c =
       still = still-on t t₁ t₂ (c .test .ensures .still) (c .choose .ensures .still);
       extends = extends-on S t t₁ t₂ x₁ x₂;
       cases = room-before S t t₁ (t .limit) good x₁ (room-more (ChoiceStep T H L) S n₁ (t .limit) up
-        (subst (λ k. NoRoom (ChoiceStep T H L) n₁ k) (x₁ .limit-is) (c .in-rest-choose .ensures tt .cases)));
+          (subst (λ k. NoRoom (ChoiceStep T H L) n₁ k) (x₁ .limit-is) (c .in-rest-choose .ensures tt .cases)));
     }
 
 pub returns : need.returns
@@ -137,6 +137,6 @@ returns c =
       still = still-on t t₁ t₂ (c .test .ensures .still) (c .choose .ensures .still);
       extends = extends-on S t t₁ t₂ x₁ x₂;
       cases = denotes-is n₂ (c .in-Some-choose .e) (λ ρ. cond (T ρ) (H ρ) (L ρ)) (composed ns v g (2 * (i + 1)))
-        (λ ρ. choice-like T H L T′ H′ L′ is-t is-h is-l ρ ∙ node-choice ns (upd ρ v (eval ns ρ g)) i good (c .pre .inside))
-        (c .in-Some-choose .ensures tt .cases);
+          (λ ρ. choice-like T H L T′ H′ L′ is-t is-h is-l ρ ∙ node-choice ns (upd ρ v (eval ns ρ g)) i good (c .pre .inside))
+          (c .in-Some-choose .ensures tt .cases);
     }

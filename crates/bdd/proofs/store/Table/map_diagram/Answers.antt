@@ -97,14 +97,14 @@ returns-in-rest c =
     let S : ((ℕ → Bool) → Bool) → Type 0 = ComposeStep ns f v g in
     let x₀ : Extends S t u = record { sound = x .sound; limit-is = x .limit-is; grown = x .grown; parts = x .parts } in
     let up : m i ≡ true → (φ : (ℕ → Bool) → Bool) → NodeStep ms v g i φ → S φ = λ mark φ s.
-      record { at = i; before = lt; of-diagram = inv .marks .part i lt mark; is = step-kept ns ms v g i good (x .grown) (c .pre .g-within) (omega (arith, c .pre .f-within)) φ s } in
+    record { at = i; before = lt; of-diagram = inv .marks .part i lt mark; is = step-kept ns ms v g i good (x .grown) (c .pre .g-within) (omega (arith, c .pre .f-within)) φ s } in
     let mark : m i ≡ true = sym read ∙ c .if-index .taken in
     let w : Table = c .image .last .self in
     let y : Extends S u w = extends-more (NodeStep ms v g i) S u w (up mark) (c .image .ensures .extends) in
     record {
       extends = extends-on S t u w x₀ y;
       cases = room-before S t u (t .limit) good x₀ (room-more (NodeStep ms v g i) S ms (t .limit) (up mark)
-        (subst (λ k. NoRoom (NodeStep ms v g i) ms k) (x₀ .limit-is) (c .in-rest .ensures tt .cases)));
+          (subst (λ k. NoRoom (NodeStep ms v g i) ms k) (x₀ .limit-is) (c .in-rest .ensures tt .cases)));
     }
 
 pub loop-i-again : need.loop-i-again
@@ -130,40 +130,40 @@ loop-i-again c =
     let S : ((ℕ → Bool) → Bool) → Type 0 = ComposeStep ns f v g in
     let x₀ : Extends S t u = record { sound = x .sound; limit-is = x .limit-is; grown = x .grown; parts = x .parts } in
     let up : m i ≡ true → (φ : (ℕ → Bool) → Bool) → NodeStep ms v g i φ → S φ = λ mark φ s.
-      record { at = i; before = lt; of-diagram = inv .marks .part i lt mark; is = step-kept ns ms v g i good (x .grown) (c .pre .g-within) (omega (arith, c .pre .f-within)) φ s } in
+    record { at = i; before = lt; of-diagram = inv .marks .part i lt mark; is = step-kept ns ms v g i good (x .grown) (c .pre .g-within) (omega (arith, c .pre .f-within)) φ s } in
     let t′ : Table = record { nodes = t .nodes; next = t .next; heads = t .heads; cache = t .cache; stamp = t .stamp; marks = refilled (t .marks) (c .mark-diagram .last .marks); images = t .images; limit = t .limit } in
     elim (c .if-index .came) [
-      then-index·in-Some w ↦ (
-        let mark : m i ≡ true = sym read ∙ w .if-index .taken in
-        let u′ : Table = w .image .last .self in
-        let ms′ : List Node = nodesOf u′ in
-        let e : ℕ = w .in-Some .e in
-        let st = w .image .ensures .still in
-        let y : Extends S u u′ = extends-more (NodeStep ms v g i) S u u′ (up mark) (w .image .ensures .extends) in
-        let z : Extends S t u′ = extends-on S t u u′ x₀ y in
-        let s = y .sound in
-        let room : i < length images = let more : vec-len (u .images) ≡ length images = search needs in omega (arith, x .grown .longer, x .sound .within, x .sound .images-room, c .pre .f-within) in
-        let same-marks : vec-items (u′ .marks) ≡ vec-items (u .marks) = ap vec-items (st .marks-is) in
-        let same-images : vec-items (u′ .images) ≡ images = ap vec-items (st .images-is) in
-        let done : (k : ℕ) → k < i + 1 → m k ≡ true → Denotes ms′ (getD (set images i e) k 0) (composed ns v g (2 * (k + 1))) =
+      | then-index·in-Some w ↦ (
+          let mark : m i ≡ true = sym read ∙ w .if-index .taken in
+          let u′ : Table = w .image .last .self in
+          let ms′ : List Node = nodesOf u′ in
+          let e : ℕ = w .in-Some .e in
+          let st = w .image .ensures .still in
+          let y : Extends S u u′ = extends-more (NodeStep ms v g i) S u u′ (up mark) (w .image .ensures .extends) in
+          let z : Extends S t u′ = extends-on S t u u′ x₀ y in
+          let s = y .sound in
+          let room : i < length images = let more : vec-len (u .images) ≡ length images = search needs in omega (arith, x .grown .longer, x .sound .within, x .sound .images-room, c .pre .f-within) in
+          let same-marks : vec-items (u′ .marks) ≡ vec-items (u .marks) = ap vec-items (st .marks-is) in
+          let same-images : vec-items (u′ .images) ≡ images = ap vec-items (st .images-is) in
+          let done : (k : ℕ) → k < i + 1 → m k ≡ true → Denotes ms′ (getD (set images i e) k 0) (composed ns v g (2 * (k + 1))) =
           images-more ns ms ms′ images m v g i e good (x .sound .good) (x .grown) (y .grown) (c .pre .g-within) (omega (arith, c .pre .f-within)) room (w .in-Some .ensures tt .cases) (inv .done) in
-        subst (λ q. Mapping t′ q f v g (i + 1)) (sym (w .self-is)) (record {
-          extends = record {
-            sound = record { good = s .good; linked = s .linked; cache-some = s .cache-some; stamped = s .stamped; cached = s .cached; within = s .within; room = s .room; next-room = s .next-room; marks-room = s .marks-room; images-room = s .images-room; small = s .small };
-            limit-is = z .limit-is;
-            grown = z .grown;
-            parts = z .parts;
-          };
-          marks = subst (λ xs. Marks ns f (f / 2) 0 (at xs)) (sym same-marks) (inv .marks);
-          done = λ k kl mk. subst (λ xs. Denotes ms′ (getD (set xs i e) k 0) (composed ns v g (2 * (k + 1)))) (sym same-images) (done k kl (sym (ap (λ xs. at xs k) same-marks) ∙ mk));
-        }))
-    | else-index w ↦ (
-        let bare : m i ≡ false = sym read ∙ w .if-index .left in
-        subst (λ q. Mapping t′ q f v g (i + 1)) (sym (w .self-is)) (record {
-          extends = x;
-          marks = inv .marks;
-          done = λ k kl mk. ⊎-elim (λ is. absurd (both-ways (m k) (ap m is ∙ bare) mk)) (λ ne. inv .done k (below k i kl ne) mk) (cases-eq k i);
-        }))
+          subst (λ q. Mapping t′ q f v g (i + 1)) (sym (w .self-is)) (record {
+            extends = record {
+              sound = record { good = s .good; linked = s .linked; cache-some = s .cache-some; stamped = s .stamped; cached = s .cached; within = s .within; room = s .room; next-room = s .next-room; marks-room = s .marks-room; images-room = s .images-room; small = s .small };
+              limit-is = z .limit-is;
+              grown = z .grown;
+              parts = z .parts;
+            };
+            marks = subst (λ xs. Marks ns f (f / 2) 0 (at xs)) (sym same-marks) (inv .marks);
+            done = λ k kl mk. subst (λ xs. Denotes ms′ (getD (set xs i e) k 0) (composed ns v g (2 * (k + 1)))) (sym same-images) (done k kl (sym (ap (λ xs. at xs k) same-marks) ∙ mk));
+          }))
+      | else-index w ↦ (
+          let bare : m i ≡ false = sym read ∙ w .if-index .left in
+          subst (λ q. Mapping t′ q f v g (i + 1)) (sym (w .self-is)) (record {
+            extends = x;
+            marks = inv .marks;
+            done = λ k kl mk. ⊎-elim (λ is. absurd (both-ways (m k) (ap m is ∙ bare) mk)) (λ ne. inv .done k (below k i kl ne) mk) (cases-eq k i);
+          }))
     ]
 
 pub returns : need.returns

@@ -52,7 +52,7 @@ returns-in-rest c =
       still = record { marks-is = kept .marks-is; images-is = kept .images-is };
       extends = record { sound = kept .sound; limit-is = kept .limit-is; grown = kept .grown; parts = λ i a b. absurd (omega arith) };
       cases = refusal ns ns φ (c .args .self .now .limit) (lack .extra) (c .pre .sound .good) (grown-self ns) (omega (arith, full .0)) (lack .good)
-        (λ i a b. part-own ns (ns ++ lack .extra ∷ []) (c .args .v) (c .args .g) w i (c .if-w-v .left) (variable-parts ns (ns ++ lack .extra ∷ []) w (lack .result) (lack .made) i a b));
+          (λ i a b. part-own ns (ns ++ lack .extra ∷ []) (c .args .v) (c .args .g) w i (c .if-w-v .left) (variable-parts ns (ns ++ lack .extra ∷ []) w (lack .result) (lack .made) i a b));
     }
 
 pub returns : need.returns

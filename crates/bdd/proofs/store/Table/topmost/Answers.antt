@@ -16,8 +16,19 @@ returns c =
     let P : List Node → Type 0 = λ ns. Cases (c .topmost-of .result) ((u : ℕ) → c .args .bound < u → Ignores (λ ρ. eval ns ρ e) u) (λ v. Topmost (λ ρ. eval ns ρ e) (c .args .bound) v) in
     record {
       same = record {
-        sound = record { good = s .good; linked = s .linked; cache-some = s .cache-some; stamped = s .stamped; cached = s .cached; within = s .within; room = s .room; next-room = s .next-room; marks-room = s .marks-room;
-          images-room = s .images-room; small = s .small };
+        sound = record {
+          good = s .good;
+          linked = s .linked;
+          cache-some = s .cache-some;
+          stamped = s .stamped;
+          cached = s .cached;
+          within = s .within;
+          room = s .room;
+          next-room = s .next-room;
+          marks-room = s .marks-room;
+          images-room = s .images-room;
+          small = s .small;
+        };
         nodes = refl;
         limit-is = refl;
       };

@@ -47,7 +47,7 @@ returns c =
         room = omega (arith, c .take-last-n .ensures .capacity, s .room);
         next-room = omega (arith, c .take-last-before .ensures .capacity, s .next-room);
         marks-room = s .marks-room;
-          images-room = s .images-room;
+        images-room = s .images-room;
         small = s .small;
       };
       forgotten = c .pre .forgotten;

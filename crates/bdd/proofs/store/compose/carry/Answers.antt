@@ -11,15 +11,15 @@ use Rattle.bdd.proofs.store.compose.carry.Needs.{then-place-eq0, else-place-eq
 pub returns-then-e-eq0 : need.returns-then-e-eq0
 returns-then-e-eq0 c =
     let is : c .if-place-eq0 .straight ≡ imageAt (c .args .images .now) (c .args .e / 2) = elim (c .if-place-eq0 .came) [
-      then-place-eq0 w ↦ w .straight-is ∙ sym (image-none (c .args .images .now) (c .args .e / 2) (w .if-place-eq0 .taken))
-    | else-place-eq0 w ↦ w .straight-is ∙ sym (image-some (c .args .images .now) (c .args .e / 2) (w .if-place-eq0 .left))
+      | then-place-eq0 w ↦ w .straight-is ∙ sym (image-none (c .args .images .now) (c .args .e / 2) (w .if-place-eq0 .taken))
+      | else-place-eq0 w ↦ w .straight-is ∙ sym (image-some (c .args .images .now) (c .args .e / 2) (w .if-place-eq0 .left))
     ] in
     is ∙ turn-even (c .args .e) (imageAt (c .args .images .now) (c .args .e / 2)) (c .if-e-eq0 .taken)
 
 pub returns-else-e-eq0 : need.returns-else-e-eq0
 returns-else-e-eq0 c =
     let is : c .if-place-eq0 .straight ≡ imageAt (c .args .images .now) (c .args .e / 2) = elim (c .if-place-eq0 .came) [
-      then-place-eq0 w ↦ w .straight-is ∙ sym (image-none (c .args .images .now) (c .args .e / 2) (w .if-place-eq0 .taken))
-    | else-place-eq0 w ↦ w .straight-is ∙ sym (image-some (c .args .images .now) (c .args .e / 2) (w .if-place-eq0 .left))
+      | then-place-eq0 w ↦ w .straight-is ∙ sym (image-none (c .args .images .now) (c .args .e / 2) (w .if-place-eq0 .taken))
+      | else-place-eq0 w ↦ w .straight-is ∙ sym (image-some (c .args .images .now) (c .args .e / 2) (w .if-place-eq0 .left))
     ] in
     c .inverse .ensures .value ∙ ap (λ x. flip x) is ∙ turn-odd (c .args .e) (imageAt (c .args .images .now) (c .args .e / 2)) (c .if-e-eq0 .left)
