@@ -1,3 +1,4 @@
+-- The lemmas: values of edges, conjunctions, canonicity, the index, counting, marks, walks and composition.
 pub mod Values
 pub mod Joins
 pub mod Canon

@@ -1,3 +1,4 @@
+-- The definitions that the contracts cite: diagrams and parts first, then the table, its calls and its laws.
 pub mod Diagram
 pub mod Parts
 pub mod Steps

@@ -1,3 +1,4 @@
+-- The table is sound, and the sum so far is one of its edges.
 use Prim.Native.Nat.{_/_, _≤_}
 use lib.ListN.{length}
 use Rattle.bdd.specs.Sound.{Sound, nodesOf}

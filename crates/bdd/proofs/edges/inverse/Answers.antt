@@ -1,3 +1,4 @@
+-- Both ways round, the result is the edge with its last bit turned.
 use mathlib.Core.Path.{_≡_, _∙_, ap}
 use Prim.Native.Nat.{_+_, _-_}
 use native.Mathlib.Omega.{arith}

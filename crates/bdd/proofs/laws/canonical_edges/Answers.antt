@@ -1,3 +1,4 @@
+-- Canonicity, and the same for the inverse edge.
 use mathlib.Core.Path.{_∙_, sym, ap}
 use native.Mathlib.Omega.{arith}
 use Rattle.bdd.specs.Diagram.{flip}

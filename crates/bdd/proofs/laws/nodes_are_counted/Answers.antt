@@ -1,3 +1,4 @@
+-- The count of nodes against parts.
 use Rattle.bdd.proofs.Counting.{fitting}
 use Rattle.bdd.proofs.laws.nodes_are_counted.Needs as need
 

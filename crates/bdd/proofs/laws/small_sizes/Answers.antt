@@ -1,3 +1,4 @@
+-- The definition computes.
 use mathlib.Core.Path.{refl}
 use Rattle.bdd.proofs.laws.small_sizes.Needs as need
 

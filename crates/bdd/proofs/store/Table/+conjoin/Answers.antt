@@ -1,3 +1,4 @@
+-- A conjunction is made of those of the cofactors; new nodes, also the one that is wanting, are parts of it.
 use borrow.Author.Needs.{needs}
 use mathlib.Core.Path.{_≡_, refl, sym, _∙_, ap, ap₂, subst}
 use mathlib.Core.Logic.{⊎-elim, _⊎_, inl, inr}

@@ -1,3 +1,4 @@
+-- Each call goes down in one of the two diagrams.
 use Prim.Native.Nat.{_+_, _/_}
 use Rattle.bdd.proofs.store.Table.+conjoin.Given as given
 

@@ -1,3 +1,4 @@
+-- What conjoin promises; a refusal is cut back to the mark.
 use borrow.Author.Needs.{needs}
 use mathlib.Core.Path.{_≡_, refl, sym, _∙_, ap, subst}
 use mathlib.Core.List.{List, [], _∷_, _++_}

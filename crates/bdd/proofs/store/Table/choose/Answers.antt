@@ -1,3 +1,4 @@
+-- The halves of a choice and the choice, each with its nodes and its refusal.
 use borrow.Author.Needs.{needs}
 use mathlib.Core.Path.{_≡_, refl, sym, _∙_, ap, subst, fun-ext}
 use mathlib.Core.List.{List, [], _∷_, _++_}

@@ -1,3 +1,4 @@
+-- The child of the edge's node, turned as the edge is.
 use borrow.Author.Needs.{needs}
 use mathlib.Core.Path.{sym, _∙_, ap, subst}
 use native.Mathlib.Omega.{arith}

@@ -1,3 +1,4 @@
+-- The nodes that are left are the first ones, as many as the mark says.
 use borrow.Author.Needs.{needs}
 use mathlib.Core.Path.{_≡_, refl, sym, _∙_, ap, subst}
 use mathlib.Core.List.{List}

@@ -1,3 +1,4 @@
+-- What is left is the start of what was there, and no entry of the cache counts.
 use Prim.Native.Nat.{_≤_}
 use mathlib.Core.Path.{_≡_}
 use Rattle.std.specs.Of.Vec.{vec-len}

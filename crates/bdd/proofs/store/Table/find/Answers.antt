@@ -1,3 +1,4 @@
+-- The chain begins at its bucket, and goes on by one place.
 use borrow.Author.Needs.{needs}
 use mathlib.Core.Path.{_≡_, refl, sym, _∙_, ap, subst}
 use mathlib.Core.List.{List}

@@ -1,3 +1,4 @@
+-- The chain from here on has the node, if the table has it.
 use Prim.Native.Nat.{ℕ, _<_, _-_, _≤_}
 use mathlib.Core.Path.{_≡_}
 use lib.ListN.{length}

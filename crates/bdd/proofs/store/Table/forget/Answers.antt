@@ -1,3 +1,4 @@
+-- No entry has the new stamp.
 use borrow.Author.Needs.{needs}
 use mathlib.Core.Path.{_≡_, refl}
 use mathlib.Core.List.{List}

@@ -1,3 +1,4 @@
+-- The image of a node is the choice between those of its children.
 use borrow.Author.Needs.{needs}
 use mathlib.Core.Path.{_≡_, refl, sym, _∙_, ap, subst, fun-ext}
 use mathlib.Core.List.{List, [], _∷_, _++_}

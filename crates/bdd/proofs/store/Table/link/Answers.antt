@@ -1,3 +1,4 @@
+-- The table with one node more is sound: its nodes are good, and the index has the new one.
 use borrow.Author.Needs.{needs}
 use mathlib.Core.Path.{_≡_, refl, sym, _∙_, ap, subst}
 use mathlib.Core.List.{List, [], _∷_, _++_}

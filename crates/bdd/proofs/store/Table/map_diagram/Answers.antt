@@ -1,3 +1,4 @@
+-- One image more, and a refusal as one of the whole composition.
 use borrow.Author.Needs.{needs}
 use mathlib.Core.Path.{_≡_, refl, sym, _∙_, ap, subst, fun-ext}
 use mathlib.Core.List.{List, [], _∷_, _++_}

@@ -1,3 +1,4 @@
+-- The marked nodes before i have their images.
 use Rattle.bdd.specs.Composing.{Mapping}
 use Rattle.bdd.proofs.store.Table.map_diagram.Given as given
 

@@ -1,3 +1,4 @@
+-- What conjoin promises, in terms of the function.
 use borrow.Author.Needs.{needs}
 use mathlib.Core.Path.{_≡_, refl, sym, _∙_, ap, subst}
 use mathlib.Core.List.{List}

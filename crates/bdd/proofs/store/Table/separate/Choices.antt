@@ -1,3 +1,4 @@
+-- The walk is on its way, and each turn goes down in one of the two diagrams.
 use Prim.Native.Nat.{ℕ, _+_, _/_, _<_, _≤_}
 use mathlib.Core.Path.{_≡_}
 use lib.ListN.{length}

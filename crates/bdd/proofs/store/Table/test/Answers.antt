@@ -1,3 +1,4 @@
+-- The test is g, or the diagram of the variable.
 use borrow.Author.Needs.{needs}
 use mathlib.Core.Path.{_≡_, refl, sym, _∙_, ap, subst, fun-ext}
 use mathlib.Core.List.{List, [], _∷_, _++_}

@@ -1,3 +1,4 @@
+-- The table with one node less is sound, since no entry of the cache counts.
 use borrow.Author.Needs.{needs}
 use mathlib.Core.Path.{_≡_, refl, sym, _∙_, ap, subst}
 use mathlib.Core.List.{List, [], _∷_, _++_}

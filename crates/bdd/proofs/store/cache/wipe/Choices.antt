@@ -1,3 +1,4 @@
+-- The entries before k are empty.
 use Prim.Native.Nat.{ℕ, _<_, _-_, _≤_}
 use mathlib.Core.Path.{_≡_}
 use Rattle.std.specs.Of.Vec.{vec-len, vec-items}

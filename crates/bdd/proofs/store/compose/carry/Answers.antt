@@ -1,3 +1,4 @@
+-- The image of the place, turned as the edge is.
 use borrow.Author.Needs.{needs}
 use mathlib.Core.Path.{_≡_, sym, _∙_, ap}
 use Prim.Native.Nat.{ℕ, _/_}

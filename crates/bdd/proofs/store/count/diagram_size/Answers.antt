@@ -1,3 +1,4 @@
+-- As many nodes are marked as the function has parts.
 use borrow.Author.Needs.{needs}
 use mathlib.Core.Path.{_≡_, _∙_}
 use Prim.Native.Nat.{_/_}

@@ -1,3 +1,4 @@
+-- The bucket is the definition, computed.
 use borrow.Author.Needs.{needs}
 use mathlib.Core.Path.{refl}
 use native.Mathlib.Omega.{arith}

@@ -1,3 +1,4 @@
+-- One mark more is gone.
 use borrow.Author.Count.{below-more}
 use native.Mathlib.Omega.{arith}
 use mathlib.Core.Path.{_≡_, _∙_}

@@ -1,3 +1,4 @@
+-- One mark more is counted, or none.
 use borrow.Author.Needs.{needs}
 use mathlib.Core.Path.{_≡_, _∙_, ap, sym}
 use mathlib.Core.Bool.{true, false}

@@ -1,3 +1,4 @@
+-- The count is of the marks from i on.
 use mathlib.Core.Path.{_≡_}
 use Prim.Native.Nat.{_≤_, _-_}
 use Rattle.bdd.specs.Marking.{at, tally}

@@ -1,3 +1,4 @@
+-- A child of a node lies before it, so it has a mark.
 use borrow.Author.Needs.{needs}
 use mathlib.Core.Path.{_≡_, refl, sym, _∙_, ap, subst}
 use mathlib.Core.List.{List}

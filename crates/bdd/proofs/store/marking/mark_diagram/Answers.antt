@@ -1,3 +1,4 @@
+-- The marks stay closed, whether node i is marked or not.
 use borrow.Author.Needs.{needs}
 use mathlib.Core.Path.{_≡_, subst}
 use Prim.Native.Nat.{_≤_, _/_}

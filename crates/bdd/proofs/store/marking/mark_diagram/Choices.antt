@@ -1,3 +1,4 @@
+-- From i on, the marks are closed under children.
 use Prim.Native.Nat.{_≤_, _/_}
 use Rattle.bdd.specs.Marking.{at, Marks}
 use Rattle.bdd.proofs.store.marking.mark_diagram.Given as given

@@ -1,3 +1,4 @@
+-- Node i is the new least, or the old one stays.
 use borrow.Author.Needs.{needs}
 use mathlib.Core.Path.{_≡_, sym, subst}
 use mathlib.Core.Logic.{inl, inr}

@@ -1,3 +1,4 @@
+-- The least so far is that of the nodes before i.
 use Rattle.bdd.specs.Marking.{at}
 use Rattle.bdd.specs.Reading.{Least}
 use Rattle.bdd.proofs.store.topmost.least_above.Given as given

@@ -1,3 +1,4 @@
+-- The least variable of a marked node is the topmost that the function depends on.
 use borrow.Author.Needs.{needs}
 use Prim.Native.Nat.{_/_}
 use native.Mathlib.Omega.{arith}
