@@ -1,18 +1,18 @@
 -- Equal functions have equal edges.
-use mathlib.Core.Path.{_≡_, refl, sym, _∙_, ap, ap₂, subst}
-use mathlib.Core.List.{List, [], _∷_, _++_}
-use mathlib.Core.Logic.{⊎-elim, _⊎_, inl, inr}
-use mathlib.Core.Bool.{Bool, true, false, cond, _&&_, not}
-use Prim.Native.Nat.{ℕ, zero, suc, _+_, _-_, _*_, _/_, _%_, _<_, _≤_, min}
+use mathlib.Core.Path.{_≡_, refl, sym, _∙_, ap}
+use mathlib.Core.List.{List}
+use mathlib.Core.Logic.{⊎-elim, _⊎_}
+use mathlib.Core.Bool.{Bool, true, false, cond, not}
+use Prim.Native.Nat.{ℕ, zero, suc, _+_, _-_, _/_, _%_, _<_, _≤_}
 use native.Mathlib.Omega.{arith}
-use lib.ListN.{length, getD}
+use lib.ListN.{length}
 use lib.Dec.{eqb}
 use Rattle.std.proofs.shelf.Ways.{tells}
-use Rattle.std.proofs.shelf.Tests.{cases-bool, cases-order, eq-eqb, ne-eqb, true≢false, false≢true}
+use Rattle.std.proofs.shelf.Tests.{cases-order, eq-eqb, ne-eqb}
 use Rattle.bdd.specs.declared.store.nodes.Node.{Node}
-use Rattle.bdd.specs.Diagram.{child, node, nodeAt, flip, turned, inverted, edge, branch, value, eval, varAt, top, Fits, Good, Same}
+use Rattle.bdd.specs.Diagram.{node, nodeAt, turned, inverted, branch, value, eval, varAt, top, Good, Same}
 use Rattle.bdd.specs.Steps.{Cofactor}
-use Rattle.bdd.proofs.Values.{edge-like, branch-like, branch-child, turned-even, turn, turn-half, child-fits, cofactor-here, cofactor-same, inner}
+use Rattle.bdd.proofs.Values.{branch-like, branch-child, turned-even, turn, cofactor-here, cofactor-same, inner}
 use Rattle.bdd.proofs.Joins.{var-bound, var-inner}
 
 -- ρ with v set to b

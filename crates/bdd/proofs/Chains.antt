@@ -1,20 +1,20 @@
 -- The buckets of the nodes, and the cache.
 use mathlib.Core.Path.{_≡_, refl, sym, _∙_, ap, ap₂, subst}
 use mathlib.Core.List.{List, [], _∷_, _++_}
-use mathlib.Core.Logic.{⊎-elim, _⊎_, inl, inr, _≢_}
-use mathlib.Core.Bool.{Bool, true, false, cond, _&&_, not}
-use Prim.Native.Nat.{ℕ, zero, suc, _+_, _-_, _*_, _/_, _%_, _<_, _≤_, min}
+use mathlib.Core.Logic.{⊎-elim, _⊎_}
+use mathlib.Core.Bool.{_&&_, not}
+use Prim.Native.Nat.{ℕ, _+_, _-_, _/_, _<_, _≤_}
 use native.Mathlib.Omega.{arith}
 use lib.ListN.{length, getD, set, length-append, length-set}
 use Rattle.std.proofs.shelf.Lists.{getD-append-left, getD-push, getD-set-same, getD-set-other}
 use Rattle.std.proofs.shelf.Tests.{cases-eq, cases-lt}
 use Rattle.bdd.specs.declared.store.nodes.Node.{Node}
 use Rattle.bdd.specs.declared.store.cache.Entry.{Entry}
-use Rattle.bdd.specs.Diagram.{node, nodeAt, eval, varAt, top, Fits, Good, Grown}
+use Rattle.bdd.specs.Diagram.{node, nodeAt, Fits, Good, Grown}
 use Rattle.bdd.specs.Steps.{Both}
-use Rattle.bdd.specs.Sound.{Right, entryAt, entry}
-use Rattle.bdd.specs.Index.{LinkedBy, Linked, bucketOf}
-use Rattle.bdd.proofs.Values.{eval-kept, var-kept, grown-push, grown-self}
+use Rattle.bdd.specs.Sound.{Right, entry}
+use Rattle.bdd.specs.Index.{LinkedBy, bucketOf}
+use Rattle.bdd.proofs.Values.{eval-kept, var-kept, grown-push}
 
 pub both-kept : (ns ms : List Node) (f g r : ℕ) → Good ns → Grown ns ms → f / 2 ≤ length ns → g / 2 ≤ length ns → Both ns ns f g r → Both ms ms f g r
 both-kept ns ms f g r good grown inf ing b =

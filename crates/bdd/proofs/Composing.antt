@@ -2,23 +2,22 @@
 use mathlib.Core.Path.{_≡_, refl, sym, _∙_, ap, ap₂, subst, fun-ext}
 use mathlib.Core.List.{List, [], _∷_, _++_}
 use mathlib.Core.Logic.{⊎-elim, _⊎_, inl, inr}
-use mathlib.Core.Bool.{Bool, true, false, cond, _&&_, _||_, not}
-use Prim.Native.Nat.{ℕ, zero, suc, _+_, _*_, _/_, _<_, _≤_}
+use mathlib.Core.Bool.{Bool, true, false, cond, _&&_, not}
+use Prim.Native.Nat.{ℕ, _+_, _/_, _<_, _≤_}
 use native.Mathlib.Omega.{arith}
 use lib.ListN.{length}
-use lib.Dec.{eqb}
 use Rattle.std.proofs.shelf.Tests.{cases-lt}
 use Rattle.bdd.specs.declared.store.nodes.Node.{Node}
 use Rattle.bdd.specs.declared.store.Table.{Table}
-use Rattle.bdd.specs.Diagram.{nodeAt, eval, flip, Good, Grown}
+use Rattle.bdd.specs.Diagram.{eval, flip, Good, Grown}
 use Rattle.bdd.specs.Parts.{PartOf, conj}
-use Rattle.bdd.specs.Size.{Fn, same, opposite, known, parts, distinct, table, all-parts, sizeOfAll, In, Ascending, Only}
-use Rattle.bdd.specs.Laws.{Held, Inputs, TooMany}
+use Rattle.bdd.specs.Size.{Fn, parts, distinct, table, all-parts, In, Only}
+use Rattle.bdd.specs.Laws.{Held, TooMany}
 use Rattle.bdd.specs.Sound.{Sound, nodesOf}
-use Rattle.bdd.specs.Composing.{Is, Among, NoRoom, Denotes, PartOfStep, Extends, Still, choice, ChoiceStep}
+use Rattle.bdd.specs.Composing.{Is, Among, NoRoom, Denotes, Extends, Still, choice}
 use Rattle.bdd.proofs.Values.{eval-kept, eval-flip, flip-half, grown-self, grown-on, not-not}
 use Rattle.bdd.proofs.Growth.{part-kept}
-use Rattle.bdd.proofs.Pigeons.{Known, Near, known-left, known-right}
+use Rattle.bdd.proofs.Pigeons.{Known, known-left, known-right}
 use Rattle.bdd.proofs.Counting.{part-input, held-kept}
 use Rattle.bdd.proofs.Marks.{known-of, distinct-known}
 

@@ -1,23 +1,22 @@
 -- The nodes of a good table are no more than the parts of the functions that they are parts of.
-use mathlib.Core.Path.{_≡_, refl, sym, _∙_, ap, ap₂, subst, fun-ext}
+use mathlib.Core.Path.{_≡_, sym, _∙_, ap, ap₂, subst, fun-ext}
 use mathlib.Core.List.{List, [], _∷_, _++_}
 use mathlib.Core.Logic.{⊎-elim, _⊎_, inl, inr}
-use mathlib.Core.Bool.{Bool, true, false, cond, _&&_, _||_, not}
-use Prim.Native.Nat.{ℕ, zero, suc, _+_, _-_, _*_, _/_, _%_, _<_, _≤_}
+use mathlib.Core.Bool.{Bool, true, false, cond, _&&_, not}
+use Prim.Native.Nat.{ℕ, suc, _+_, _-_, _*_, _/_, _<_, _≤_}
 use native.Mathlib.Omega.{arith}
 use lib.ListN.{length, length-append}
-use lib.Dec.{eqb, ltb}
-use Rattle.std.proofs.shelf.Tests.{cases-bool, cases-lt, cases-eq, cases-order, lt-ltb, le-ltb, eq-eqb, ne-eqb, both-ways, ltb-true, ltb-false}
+use lib.Dec.{ltb}
+use Rattle.std.proofs.shelf.Tests.{cases-bool, cases-lt, cases-eq, cases-order}
 use Rattle.bdd.specs.declared.store.nodes.Node.{Node}
-use Rattle.bdd.specs.Diagram.{child, node, nodeAt, flip, turned, inverted, value, eval, varAt, top, Good, Same, Grown}
+use Rattle.bdd.specs.Diagram.{child, node, nodeAt, flip, turned, inverted, eval, varAt, top, Good, Same, Grown}
 use Rattle.bdd.specs.Parts.{fixed, PartOf, conj}
-use Rattle.bdd.specs.Steps.{Lacking}
-use Rattle.bdd.specs.Size.{Fn, one, fork, same, opposite, parts, distinct, table, with-input, all-parts, sizeOfAll, In, Above, Ascending, Only}
+use Rattle.bdd.specs.Size.{Fn, same, opposite, parts, table, all-parts, In, Ascending, Only}
 use Rattle.bdd.specs.Laws.{Held, Inputs, Fitting, TooMany}
 use Rattle.bdd.proofs.Growth.{part-kept}
-use Rattle.bdd.proofs.Values.{grown-on, grown-push, branch-like, branch-child, eval-flip, eval-child, turned-even, flip-half}
-use Rattle.bdd.proofs.Canon.{eval-upd, upd, upd-at, upd-other, branch-at, same-edge}
-use Rattle.bdd.proofs.Pigeons.{same-true, same-of, opposite-twice, Near, Known, known-near, known-left, known-right, near-sym, pigeons}
+use Rattle.bdd.proofs.Values.{grown-on, grown-push, eval-flip, eval-child, turned-even, flip-half}
+use Rattle.bdd.proofs.Canon.{eval-upd, upd, upd-at, upd-other, same-edge}
+use Rattle.bdd.proofs.Pigeons.{same-true, Near, Known, known-near, known-left, known-right, pigeons}
 use Rattle.bdd.proofs.Tables.{after, along, on, Depends, depth, depth-table, depth-opposite, opposite-table, table-inj, on-in, From, from-in, fewer, part-known, eval-only, on-out, fixed-table, depends-opposite}
 
 module _ (ns : List Node) (good : Good ns) (vs : List ℕ) (asc : Ascending vs) (vars : (i : ℕ) → i < length ns → In (nodeAt ns i .var) vs) where

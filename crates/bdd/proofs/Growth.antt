@@ -1,21 +1,20 @@
 -- The nodes that a conjunction adds are parts of it.
 use mathlib.Core.Path.{_≡_, refl, sym, _∙_, ap, ap₂, subst, fun-ext}
 use mathlib.Core.List.{List, [], _∷_, _++_}
-use mathlib.Core.Logic.{⊎-elim, _⊎_, inl, inr}
-use mathlib.Core.Bool.{Bool, true, false, cond, _&&_, not}
+use mathlib.Core.Logic.{⊎-elim, _⊎_}
+use mathlib.Core.Bool.{Bool, true, false, cond, _&&_}
 use Prim.Native.Nat.{ℕ, zero, suc, _+_, _-_, _*_, _/_, _%_, _<_, _≤_, min}
 use native.Mathlib.Omega.{arith}
-use lib.ListN.{length, getD}
+use lib.ListN.{length}
 use lib.Dec.{eqb, ltb}
-use Rattle.std.proofs.shelf.Ways.{tells}
 use Rattle.std.proofs.shelf.Tests.{cases-eq, cases-lt, eq-eqb, ne-eqb, lt-ltb, le-ltb}
 use Rattle.bdd.specs.declared.store.nodes.Node.{Node}
-use Rattle.bdd.specs.Diagram.{node, nodeAt, flip, turned, inverted, edge, branch, value, eval, varAt, top, Good, Grown}
+use Rattle.bdd.specs.Diagram.{nodeAt, turned, inverted, value, eval, varAt, top, Good, Grown}
 use Rattle.bdd.specs.Steps.{Cofactor, Made, Both, Short, Parts, Lacking}
 use Rattle.bdd.specs.Parts.{fixed, PartOf, News, conj}
-use Rattle.bdd.proofs.Values.{branch-like, branch-child, eval-kept, var-kept, grown-push, grown-self, grown-on}
+use Rattle.bdd.proofs.Values.{branch-like, eval-kept, var-kept, grown-push, grown-on}
 use Rattle.bdd.proofs.Joins.{both-step}
-use Rattle.bdd.proofs.Canon.{upd, upd-at, upd-other, eval-upd, branch-at}
+use Rattle.bdd.proofs.Canon.{upd, upd-at, eval-upd, branch-at}
 
 upd-fixed-at : (σ : ℕ → Bool) (x : ℕ) (ρ : ℕ → Bool) (v : ℕ) (b : Bool) → v < x → (u : ℕ) → upd (fixed σ x ρ) v b u ≡ fixed (upd σ v b) x ρ u
 upd-fixed-at σ x ρ v b lt u = ⊎-elim

@@ -1,19 +1,18 @@
 -- The images of nodes under a composition.
-use mathlib.Core.Path.{_≡_, refl, sym, _∙_, ap, ap₂, subst, fun-ext}
-use mathlib.Core.List.{List, [], _∷_, _++_}
+use mathlib.Core.Path.{_≡_, sym, _∙_, ap, ap₂, subst}
+use mathlib.Core.List.{List}
 use mathlib.Core.Logic.{⊎-elim, _⊎_, inl, inr}
 use mathlib.Core.Bool.{Bool, true, false, cond, _&&_, not}
 use Prim.Native.Nat.{ℕ, zero, suc, _+_, _-_, _*_, _/_, _<_, _≤_}
 use native.Mathlib.Omega.{arith}
 use lib.ListN.{length, getD, set}
 use Rattle.std.proofs.shelf.Lists.{getD-set-same, getD-set-other}
-use Rattle.std.proofs.shelf.Tests.{cases-bool, cases-eq, cases-lt}
+use Rattle.std.proofs.shelf.Tests.{cases-bool, cases-eq}
 use Rattle.bdd.specs.declared.store.nodes.Node.{Node}
-use Rattle.bdd.specs.Diagram.{child, nodeAt, eval, value, turned, inverted, flip, varAt, top, Good, Grown}
+use Rattle.bdd.specs.Diagram.{child, nodeAt, eval, value, turned, inverted, varAt, top, Good, Grown}
 use Rattle.bdd.specs.Marking.{Marked, Marks}
 use Rattle.bdd.specs.Composing.{Is, Denotes, choice, ChoiceStep, tested, composed, NodeStep, imageAt, carried}
-use Rattle.bdd.proofs.Values.{eval-kept, eval-false, eval-flip, eval-child, turned-even, turn, eval-turn, turn-half, child-fits}
-use Rattle.bdd.proofs.Growth.{straight-of, turned-twice}
+use Rattle.bdd.proofs.Values.{eval-kept, eval-false, eval-child, turned-even, eval-turn, turn-half, child-fits}
 use Rattle.bdd.proofs.Canon.{upd, eval-upd}
 
 pub image-none : (images : List ℕ) (j : ℕ) → j ≡ 0 → imageAt images j ≡ 0

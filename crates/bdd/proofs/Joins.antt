@@ -1,16 +1,16 @@
 -- The steps of a conjunction.
-use mathlib.Core.Path.{_≡_, refl, sym, _∙_, ap, ap₂, subst}
-use mathlib.Core.List.{List, [], _∷_, _++_}
-use mathlib.Core.Logic.{⊎-elim, _⊎_, inl, inr}
-use mathlib.Core.Bool.{Bool, true, false, cond, _&&_, not}
-use Prim.Native.Nat.{ℕ, zero, suc, _+_, _-_, _*_, _/_, _%_, _<_, _≤_, min}
+use mathlib.Core.Path.{_≡_, refl, sym, _∙_, ap, ap₂}
+use mathlib.Core.List.{List}
+use mathlib.Core.Logic.{⊎-elim, _⊎_}
+use mathlib.Core.Bool.{Bool, true, false, _&&_, not}
+use Prim.Native.Nat.{ℕ, zero, suc, _+_, _-_, _/_, _<_, _≤_, min}
 use native.Mathlib.Omega.{arith}
-use lib.ListN.{length, getD}
+use lib.ListN.{length}
 use Rattle.std.proofs.shelf.Tests.{cases-bool}
-use Rattle.std.specs.Of.Vec.{vec-len, vec-items, vec-cap}
+use Rattle.std.specs.Of.Vec.{vec-items}
 use Rattle.bdd.specs.declared.store.nodes.Node.{Node}
 use Rattle.bdd.specs.declared.store.Table.{Table}
-use Rattle.bdd.specs.Diagram.{nodeAt, flip, eval, varAt, top, Good, Grown}
+use Rattle.bdd.specs.Diagram.{flip, eval, varAt, top, Good, Grown}
 use Rattle.bdd.specs.Steps.{Cofactor, Made, Both}
 use Rattle.bdd.specs.Sound.{Sound, Kept}
 use Rattle.bdd.proofs.Values.{eval-false, eval-true, eval-flip, eval-kept, var-kept, grown-self, grown-on}

@@ -2,26 +2,23 @@
 use mathlib.Core.Path.{_≡_, refl, sym, _∙_, ap, ap₂, subst, fun-ext}
 use mathlib.Core.List.{List, [], _∷_, _++_}
 use mathlib.Core.Logic.{⊎-elim, _⊎_, inl, inr}
-use mathlib.Core.Bool.{Bool, true, false, cond, _&&_, _||_, not}
-use Prim.Native.Nat.{ℕ, zero, suc, _+_, _-_, _*_, _/_, _%_, _<_, _≤_}
+use mathlib.Core.Bool.{Bool, true, false, cond, _||_, not}
+use Prim.Native.Nat.{ℕ, zero, suc, _+_, _-_, _*_, _/_, _<_, _≤_}
 use native.Mathlib.Omega.{arith}
 use lib.ListN.{length}
-use lib.Dec.{eqb, ltb}
-use Rattle.std.proofs.shelf.Tests.{cases-bool, cases-lt, cases-eq, cases-order, lt-ltb, le-ltb, eq-eqb, ne-eqb, both-ways, ltb-true, ltb-false, or-left, or-right}
+use lib.Dec.{eqb}
+use Rattle.std.proofs.shelf.Tests.{cases-bool, cases-lt, cases-eq, lt-ltb, le-ltb, eq-eqb, ne-eqb, both-ways, or-left, or-right}
 use Rattle.bdd.specs.declared.store.nodes.Node.{Node}
-use Rattle.bdd.specs.Diagram.{child, node, nodeAt, flip, turned, inverted, value, eval, varAt, top, Good, Same}
-use Rattle.bdd.specs.Parts.{fixed, PartOf}
-use Rattle.bdd.specs.Steps.{Cofactor}
-use Rattle.bdd.specs.Size.{Fn, one, fork, same, opposite, known, parts, distinct, table, with-input, sizeOf, In, Above, Ascending, Only}
+use Rattle.bdd.specs.Diagram.{node, nodeAt, turned, inverted, eval, varAt, top, Good}
+use Rattle.bdd.specs.Size.{Fn, one, fork, same, opposite, known, parts, distinct, table, sizeOf, In, Above, Ascending, Only}
 use Rattle.bdd.specs.Laws.{Inputs}
 use Rattle.bdd.specs.Marking.{bit, tally, Marked, Marks}
 use Rattle.bdd.proofs.Values.{turn, turn-half, cofactor-here, inner}
-use Rattle.bdd.proofs.Joins.{var-bound}
 use Rattle.bdd.proofs.Growth.{straight-of, turned-twice}
-use Rattle.bdd.proofs.Canon.{upd, upd-at, upd-other, eval-upd}
-use Rattle.bdd.proofs.Pigeons.{same-true, same-of, opposite-twice, Near, Known, known-is, known-near, near-on, near-sym, near-or-not}
-use Rattle.bdd.proofs.Tables.{on, on-in, on-out, after, table-like, above-in, eval-only, opposite-table, from-in, From}
-use Rattle.bdd.proofs.Counting.{tableOf, known-own, near-own, top-own}
+use Rattle.bdd.proofs.Canon.{upd, upd-at, upd-other}
+use Rattle.bdd.proofs.Pigeons.{same-of, Near, Known, known-is, known-near, near-on, near-sym, near-or-not}
+use Rattle.bdd.proofs.Tables.{on, on-in, on-out, after, above-in, eval-only, opposite-table}
+use Rattle.bdd.proofs.Counting.{tableOf, known-own, near-own}
 
 -- m without k
 abbrev without : ℕ → (ℕ → Bool) → ℕ → Bool

@@ -2,11 +2,11 @@
 use mathlib.Core.Path.{_≡_, refl, sym, _∙_, ap, ap₂, subst}
 use mathlib.Core.List.{List, [], _∷_, _++_}
 use mathlib.Core.Logic.{⊎-elim, _⊎_, inl, inr}
-use mathlib.Core.Bool.{Bool, true, false, cond, _&&_, _||_, not}
+use mathlib.Core.Bool.{Bool, true, false, cond, _||_}
 use Prim.Native.Nat.{ℕ, zero, suc, _+_, _-_, _<_, _≤_}
 use native.Mathlib.Omega.{arith}
-use lib.Dec.{eqb, ltb}
-use Rattle.std.proofs.shelf.Tests.{and-parts, and-from, or-cases, or-left, or-right, cases-bool, cases-lt, cases-eq, lt-ltb, le-ltb, true≢false, false≢true, both-ways}
+use lib.Dec.{ltb}
+use Rattle.std.proofs.shelf.Tests.{and-parts, and-from, or-cases, cases-bool, cases-lt, cases-eq, lt-ltb, le-ltb, false≢true, both-ways}
 use Rattle.bdd.specs.Size.{Fn, one, fork, sameBool, same, opposite, known, distinct}
 use Rattle.bdd.proofs.Values.{not-not}
 

@@ -1,15 +1,15 @@
 -- A function depends on the variables of its diagram's nodes, and on no other.
-use mathlib.Core.Path.{_≡_, refl, sym, _∙_, ap, ap₂, subst, fun-ext}
-use mathlib.Core.List.{List, [], _∷_, _++_}
+use mathlib.Core.Path.{_≡_, refl, sym, _∙_, ap, subst, fun-ext}
+use mathlib.Core.List.{List}
 use mathlib.Core.Logic.{⊎-elim, _⊎_, inl, inr}
-use mathlib.Core.Bool.{Bool, true, false, cond, not}
-use Prim.Native.Nat.{ℕ, zero, suc, _+_, _-_, _*_, _/_, _%_, _<_, _≤_}
+use mathlib.Core.Bool.{Bool, true, false, cond}
+use Prim.Native.Nat.{ℕ, zero, suc, _+_, _-_, _*_, _/_, _<_, _≤_}
 use native.Mathlib.Omega.{arith}
 use lib.ListN.{length}
-use lib.Dec.{eqb, ltb}
-use Rattle.std.proofs.shelf.Tests.{cases-bool, cases-lt, cases-eq, lt-ltb, le-ltb, both-ways}
+use lib.Dec.{ltb}
+use Rattle.std.proofs.shelf.Tests.{cases-eq, le-ltb, both-ways}
 use Rattle.bdd.specs.declared.store.nodes.Node.{Node}
-use Rattle.bdd.specs.Diagram.{child, nodeAt, turned, inverted, value, eval, varAt, Good}
+use Rattle.bdd.specs.Diagram.{child, nodeAt, turned, inverted, value, eval, Good}
 use Rattle.bdd.specs.Parts.{fixed, PartOf}
 use Rattle.bdd.specs.Marking.{Marked, Marks}
 use Rattle.bdd.specs.Reading.{Ignores, Topmost, Least}

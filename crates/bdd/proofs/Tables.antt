@@ -1,23 +1,20 @@
 -- The tables of functions: when they are equal, and that a table along some fixed inputs is a part.
-use mathlib.Core.Path.{_≡_, refl, sym, _∙_, ap, ap₂, subst, fun-ext}
+use mathlib.Core.Path.{_≡_, refl, sym, _∙_, ap, ap₂, subst}
 use mathlib.Core.List.{List, [], _∷_, _++_}
 use mathlib.Core.Logic.{⊎-elim, _⊎_, inl, inr}
-use mathlib.Core.Bool.{Bool, true, false, cond, _&&_, _||_, not}
-use Prim.Native.Nat.{ℕ, zero, suc, _+_, _-_, _*_, _/_, _%_, _<_, _≤_}
+use mathlib.Core.Bool.{Bool, true, false, cond, not}
+use Prim.Native.Nat.{ℕ, zero, suc, _+_, _-_, _/_, _<_, _≤_}
 use native.Mathlib.Omega.{arith}
-use lib.ListN.{length, length-append}
-use lib.Dec.{eqb, ltb}
-use Rattle.std.proofs.shelf.Tests.{cases-bool, cases-lt, cases-eq, cases-order, lt-ltb, le-ltb, eq-eqb, ne-eqb, both-ways, ltb-true, ltb-false}
+use lib.ListN.{length}
+use lib.Dec.{ltb}
+use Rattle.std.proofs.shelf.Tests.{cases-bool, cases-lt, cases-eq, lt-ltb, le-ltb, both-ways, ltb-true}
 use Rattle.bdd.specs.declared.store.nodes.Node.{Node}
-use Rattle.bdd.specs.Diagram.{child, node, nodeAt, flip, turned, inverted, value, eval, varAt, top, Good, Same, Grown}
-use Rattle.bdd.specs.Parts.{fixed, PartOf, conj}
-use Rattle.bdd.specs.Steps.{Lacking}
-use Rattle.bdd.specs.Size.{Fn, one, fork, same, opposite, parts, distinct, table, with-input, all-parts, sizeOfAll, In, Above, Ascending, Only}
-use Rattle.bdd.specs.Laws.{Held, Inputs, Fitting}
-use Rattle.bdd.proofs.Growth.{part-kept}
-use Rattle.bdd.proofs.Values.{grown-on, grown-push, branch-like, branch-child, eval-flip, eval-child, turned-even, flip-half}
-use Rattle.bdd.proofs.Canon.{eval-upd, upd, upd-at, upd-other, branch-at, same-edge}
-use Rattle.bdd.proofs.Pigeons.{same-true, same-of, opposite-twice, Near, Known, known-near, known-left, known-right, near-sym, pigeons}
+use Rattle.bdd.specs.Diagram.{nodeAt, turned, inverted, value, eval, varAt, top, Good}
+use Rattle.bdd.specs.Parts.{fixed}
+use Rattle.bdd.specs.Size.{Fn, one, fork, same, opposite, parts, table, In, Above, Ascending, Only}
+use Rattle.bdd.proofs.Values.{branch-like}
+use Rattle.bdd.proofs.Canon.{upd, upd-at, upd-other, branch-at}
+use Rattle.bdd.proofs.Pigeons.{same-true, same-of, Known, known-left, known-right}
 
 -- the inputs from w on
 abbrev pub after : ℕ → List ℕ → List ℕ

@@ -2,20 +2,19 @@
 use mathlib.Core.Path.{_≡_, refl, sym, _∙_, ap, subst}
 use mathlib.Core.List.{List, [], _∷_, _++_}
 use mathlib.Core.Logic.{⊎-elim, inl, inr}
-use mathlib.Core.Bool.{Bool, true, false, cond, _&&_, not}
+use mathlib.Core.Bool.{Bool, true, false, cond, not}
 use Prim.Native.Nat.{ℕ, zero, suc, _+_, _-_, _*_, _/_, _%_, _<_, _≤_}
 use native.Mathlib.Omega.{arith}
 use lib.ListN.{length, getD, take, length-append}
-use lib.Dec.{eqb}
 use Rattle.std.proofs.shelf.Ways.{tells}
 use Rattle.std.proofs.shelf.Lists.{getD-read, getD-append-left, getD-push, getD-default, getD-take, length-take-le, same-lists}
-use Rattle.std.proofs.shelf.Tests.{eq-eqb, ne-eqb, cases-eq, cases-lt}
+use Rattle.std.proofs.shelf.Tests.{ne-eqb, cases-lt}
 use Rattle.std.specs.Options.{Cases}
 use Rattle.std.specs.declared.option.Option.{Option}
 use Rattle.std.specs.declared.option.Option.the-variants.{Some, None}
 use Rattle.bdd.specs.declared.store.nodes.Node.{Node}
-use Rattle.bdd.specs.Diagram.{child, node, nodeAt, flip, turned, inverted, edge, branch, value, eval, varAt, top, Fits, Good, Same, Grown}
-use Rattle.bdd.specs.Steps.{Cofactor, Made, Both, Placed, Short}
+use Rattle.bdd.specs.Diagram.{child, node, nodeAt, flip, turned, inverted, edge, branch, value, eval, varAt, top, Fits, Good, Grown}
+use Rattle.bdd.specs.Steps.{Cofactor, Made, Placed, Short}
 use Rattle.bdd.specs.Index.{Lacks}
 
 pub edge-like : (f g : ℕ → Bool) (e : ℕ) → f (e / 2) ≡ g (e / 2) → edge f e ≡ edge g e

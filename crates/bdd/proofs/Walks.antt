@@ -1,14 +1,14 @@
 -- The way down two diagrams that differ, to a code under which they do.
-use mathlib.Core.Path.{_≡_, refl, sym, ap, ap₂, subst, _∙_}
+use mathlib.Core.Path.{_≡_, refl, sym, ap, subst, _∙_}
 use mathlib.Core.Logic.{_⊎_, inl, inr, ⊎-elim}
-use mathlib.Core.List.{List, [], _∷_}
-use mathlib.Core.Bool.{Bool, true, false, cond, not}
+use mathlib.Core.List.{List}
+use mathlib.Core.Bool.{Bool, true, false, not}
 use Prim.Native.Nat.{ℕ, zero, suc, _+_, _-_, _*_, _/_, _%_, _^_, _<_, _≤_, min}
 use native.Mathlib.Omega.{arith}
 use lib.Dec.{eqb}
 use lib.ListN.{length}
 use Rattle.std.proofs.shelf.Bits.{pow-below, shr-high, mod-low, mod-pow-add, pow-add, field-of}
-use Rattle.std.proofs.shelf.Tests.{cases-eq, cases-lt, cases-bool}
+use Rattle.std.proofs.shelf.Tests.{cases-eq, cases-bool}
 use Rattle.bdd.specs.declared.store.nodes.Node.{Node}
 use Rattle.bdd.specs.Diagram.{eval, top, varAt, nodeAt, Good, Same}
 use Rattle.bdd.specs.Steps.{Cofactor}

@@ -1,9 +1,9 @@
 -- Marks on the nodes that an edge leads to.
 use mathlib.Core.Path.{_≡_}
 use mathlib.Core.List.{List}
-use mathlib.Core.Bool.{Bool, true, false, cond}
+use mathlib.Core.Bool.{Bool, true, false}
 use Prim.Native.Nat.{ℕ, zero, suc, _+_, _/_, _<_, _≤_}
-use lib.ListN.{length, getD, set}
+use lib.ListN.{getD, set}
 use Rattle.bdd.specs.declared.store.nodes.Node.{Node}
 use Rattle.bdd.specs.Diagram.{nodeAt, eval}
 use Rattle.bdd.specs.Parts.{PartOf}

@@ -1,11 +1,10 @@
 -- The size of a function: the functions got from it by fixing the inputs before some input in some way, that depend on that
 -- input, equal or opposite ones counted once. Nothing here speaks of nodes.
-use mathlib.Core.Path.{_≡_, refl}
+use mathlib.Core.Path.{_≡_}
 use mathlib.Core.List.{List, [], _∷_, _++_}
 use mathlib.Core.Bool.{Bool, true, false, cond, _&&_, _||_, not}
 use mathlib.Core.Logic.{_⊎_}
-use Prim.Native.Nat.{ℕ, zero, suc, _<_}
-use lib.ListN.{length}
+use Prim.Native.Nat.{ℕ, suc, _<_}
 use lib.Dec.{eqb}
 
 -- The values of a function: of no input, or by the first input, where it is true and where it is false.

@@ -1,8 +1,6 @@
 //! Making a node, or finding it: each function has one node at most, which is reduced and not inverted at its high edge.
-ghost use mathlib.Core.Path.{_≡_};
 ghost use Prim.Native.Nat.{_/_, _<_, _≤_};
-ghost use lib.ListN.{length};
-ghost use Rattle.std.specs.Of.Vec.{vec-len, vec-items};
+ghost use Rattle.std.specs.Of.Vec.{vec-len};
 ghost use Rattle.std.specs.Options.{Cases as BySome};
 ghost use Rattle.bdd.specs.Diagram.{node, top as firstVar, Fits};
 ghost use Rattle.bdd.specs.Index.{Lacks};

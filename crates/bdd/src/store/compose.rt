@@ -3,10 +3,9 @@
 //! The nodes of the diagram are gone through from the first to the last, so that a node's children have their images
 //! when its own is made: the choice between them, by what takes the place of the node's variable.
 ghost use mathlib.Core.Path.{_≡_};
-ghost use mathlib.Core.Bool.{Bool};
-ghost use Prim.Native.Nat.{ℕ, _+_, _*_, _/_, _<_, _≤_};
+ghost use Prim.Native.Nat.{_+_, _*_, _/_, _<_, _≤_};
 ghost use lib.ListN.{length};
-ghost use Rattle.std.specs.Of.Vec.{vec-len, vec-items};
+ghost use Rattle.std.specs.Of.Vec.{vec-items};
 ghost use Rattle.std.specs.Options.{Cases as BySome};
 ghost use Rattle.std.specs.Orderings.{When};
 ghost use Rattle.bdd.specs.Diagram.{nodeAt, eval};

@@ -1,10 +1,9 @@
 //! The AND of two diagrams.
 //!
 //! It makes no node that the result does not have, so it lacks room only if the result does.
-ghost use mathlib.Core.Path.{_≡_};
 ghost use Prim.Native.Nat.{_/_, _≤_};
 ghost use lib.ListN.{length};
-ghost use Rattle.std.specs.Of.Vec.{vec-len, vec-items};
+ghost use Rattle.std.specs.Of.Vec.{vec-len};
 ghost use Rattle.std.specs.Options.{Cases as BySome};
 ghost use Rattle.bdd.specs.Parts.{conj};
 ghost use Rattle.bdd.specs.Steps.{Both, Parts, Lacking};

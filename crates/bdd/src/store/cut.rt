@@ -2,7 +2,6 @@
 ghost use mathlib.Core.Path.{_≡_};
 ghost use Prim.Native.Nat.{_≤_};
 ghost use lib.ListN.{length, take};
-ghost use Rattle.bdd.specs.Diagram.{Grown};
 ghost use Rattle.bdd.specs.Sound.{Sound, nodesOf};
 use super::Table;
 

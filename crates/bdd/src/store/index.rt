@@ -7,7 +7,7 @@ ghost use Prim.Native.Nat.{ℕ, _+_, _<_};
 ghost use Rattle.std.specs.Of.Vec.{vec-len, vec-items};
 ghost use Rattle.std.specs.Options.{Cases as BySome};
 ghost use Rattle.bdd.specs.Diagram.{node, nodeAt, Fits, Grown};
-ghost use Rattle.bdd.specs.Index.{bucketOf, Linked, Lacks};
+ghost use Rattle.bdd.specs.Index.{bucketOf, Linked};
 ghost use Rattle.bdd.specs.Sound.{Sound, Kept, Forgotten, nodesOf};
 use super::Table;
 use super::nodes::Node;

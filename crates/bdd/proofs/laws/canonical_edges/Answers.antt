@@ -1,5 +1,5 @@
 -- Canonicity, and the same for the inverse edge.
-use mathlib.Core.Path.{_∙_, sym, ap}
+use mathlib.Core.Path.{_∙_, sym}
 use native.Mathlib.Omega.{arith}
 use Rattle.bdd.specs.Diagram.{flip}
 use Rattle.bdd.proofs.Values.{eval-flip, flip-half}

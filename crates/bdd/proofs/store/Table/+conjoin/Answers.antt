@@ -1,18 +1,16 @@
 -- A conjunction is made of those of the cofactors; new nodes, also the one that is wanting, are parts of it.
 use borrow.Author.Needs.{needs}
-use mathlib.Core.Path.{_≡_, refl, sym, _∙_, ap, ap₂, subst}
+use mathlib.Core.Path.{_≡_, sym, _∙_, subst}
 use mathlib.Core.Logic.{⊎-elim, _⊎_, inl, inr}
 use mathlib.Core.List.{List}
-use Prim.Native.Nat.{ℕ, _+_, _/_, _<_, _≤_, min}
+use Prim.Native.Nat.{ℕ, _/_, _<_, _≤_, min}
 use native.Mathlib.Omega.{arith}
 use lib.ListN.{length}
 use Rattle.std.specs.Of.Vec.{vec-len, vec-items}
 use Rattle.bdd.specs.declared.store.nodes.Node.{Node}
-use Rattle.bdd.specs.declared.store.Table.{Table}
-use Rattle.bdd.specs.Diagram.{nodeAt, flip, eval, varAt, top, Good, Grown}
-use Rattle.bdd.specs.Steps.{Cofactor, Made, Both, Parts, Lacking}
-use Rattle.bdd.specs.Sound.{Sound, Kept, Full}
-use Rattle.bdd.proofs.Values.{cases-map}
+use Rattle.bdd.specs.Diagram.{flip, top}
+use Rattle.bdd.specs.Steps.{Both, Parts, Lacking}
+use Rattle.bdd.specs.Sound.{Kept}
 use Rattle.bdd.proofs.Chains.{right-up}
 use Rattle.bdd.proofs.Growth.{news-none, lift-high, parts-two, parts-three, lacking-high, lacking-low, lacking-own}
 use Rattle.bdd.proofs.Joins.{kept-self, kept-on, both-f, both-g, both-none, both-step, later-high, later-low, var-inner}

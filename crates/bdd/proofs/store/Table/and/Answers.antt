@@ -1,12 +1,10 @@
 -- What conjoin promises; a refusal is cut back to the mark.
 use borrow.Author.Needs.{needs}
-use mathlib.Core.Path.{_≡_, refl, sym, _∙_, ap, subst}
-use mathlib.Core.List.{List, [], _∷_, _++_}
-use mathlib.Core.Bool.{Bool}
-use Prim.Native.Nat.{ℕ, _<_, _≤_, _/_}
+use mathlib.Core.Path.{_≡_, sym, _∙_}
+use mathlib.Core.List.{List}
 use native.Mathlib.Omega.{arith}
-use lib.ListN.{length, take}
-use Rattle.std.specs.Of.Vec.{vec-len, vec-items}
+use lib.ListN.{length}
+use Rattle.std.specs.Of.Vec.{vec-len}
 use Rattle.bdd.specs.declared.store.nodes.Node.{Node}
 use Rattle.bdd.specs.Parts.{conj}
 use Rattle.bdd.specs.Sound.{nodesOf}

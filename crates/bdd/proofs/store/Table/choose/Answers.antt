@@ -1,21 +1,16 @@
 -- The halves of a choice and the choice, each with its nodes and its refusal.
-use borrow.Author.Needs.{needs}
-use mathlib.Core.Path.{_≡_, refl, sym, _∙_, ap, subst, fun-ext}
-use mathlib.Core.List.{List, [], _∷_, _++_}
+use mathlib.Core.Path.{refl, _∙_, subst}
+use mathlib.Core.List.{List}
 use mathlib.Core.Logic.{inl, inr}
-use mathlib.Core.Bool.{Bool, true, false, cond, _&&_, not}
-use Prim.Native.Nat.{ℕ, _+_, _*_, _/_, _<_, _≤_}
-use native.Mathlib.Omega.{arith}
-use lib.ListN.{length, getD}
-use Rattle.std.specs.Of.Vec.{vec-len, vec-items}
+use mathlib.Core.Bool.{Bool, _&&_, not}
+use Prim.Native.Nat.{ℕ}
 use Rattle.bdd.specs.declared.store.nodes.Node.{Node}
 use Rattle.bdd.specs.declared.store.Table.{Table}
 use Rattle.bdd.specs.Diagram.{eval}
 use Rattle.bdd.specs.Parts.{conj}
 use Rattle.bdd.specs.Laws.{TooMany}
 use Rattle.bdd.specs.Sound.{nodesOf}
-use Rattle.bdd.specs.Composing.{Is, Denotes, Extends, Still, choice, ChoiceStep}
-use Rattle.bdd.proofs.Values.{flip-half}
+use Rattle.bdd.specs.Composing.{Is, Denotes, Extends, choice, ChoiceStep}
 use Rattle.bdd.proofs.Composing.{room-refused, room-before, extends-more, extends-on, still-on, denotes-is, half-is, neither-half, turned-over}
 use Rattle.bdd.proofs.store.Table.choose.Needs as need
 

@@ -1,10 +1,8 @@
 -- The child of the edge's node, turned as the edge is.
 use borrow.Author.Needs.{needs}
-use mathlib.Core.Path.{sym, _∙_, ap, subst}
-use native.Mathlib.Omega.{arith}
-use Rattle.bdd.specs.Diagram.{flip, child}
-use Rattle.bdd.proofs.Values.{cofactor-read, cofactor-same, turn-even, turn-odd, turn}
-use Rattle.std.specs.Of.Vec.{vec-len, vec-items}
+use mathlib.Core.Path.{sym, _∙_, ap}
+use Rattle.bdd.proofs.Values.{cofactor-read, turn-even, turn-odd, turn}
+use Rattle.std.specs.Of.Vec.{vec-items}
 use Rattle.bdd.proofs.store.Table.cofactor.Needs as need
 
 pub returns-then-e-eq0 : need.returns-then-e-eq0

@@ -1,13 +1,11 @@
 -- The image of the diagram's edge; a refusal is cut back to the mark.
 use borrow.Author.Needs.{needs}
-use mathlib.Core.Path.{_≡_, refl, sym, _∙_, ap, subst, fun-ext}
-use mathlib.Core.List.{List, [], _∷_, _++_}
-use mathlib.Core.Logic.{inl, inr}
-use mathlib.Core.Bool.{Bool, true, false, cond, _&&_, not}
-use Prim.Native.Nat.{ℕ, _+_, _*_, _/_, _<_, _≤_}
+use mathlib.Core.Path.{_≡_, sym, _∙_, ap, subst}
+use mathlib.Core.List.{List}
+use Prim.Native.Nat.{ℕ}
 use native.Mathlib.Omega.{arith}
-use lib.ListN.{length, getD}
-use Rattle.std.specs.Of.Vec.{vec-len, vec-items}
+use lib.ListN.{length}
+use Rattle.std.specs.Of.Vec.{vec-items}
 use Rattle.bdd.specs.declared.store.nodes.Node.{Node}
 use Rattle.bdd.specs.declared.store.Table.{Table}
 use Rattle.bdd.specs.Sound.{nodesOf}

@@ -1,13 +1,11 @@
 -- The nodes that are left are the first ones, as many as the mark says.
 use borrow.Author.Needs.{needs}
-use mathlib.Core.Path.{_≡_, refl, sym, _∙_, ap, subst}
+use mathlib.Core.Path.{_≡_, refl, _∙_, ap}
 use mathlib.Core.List.{List}
-use Prim.Native.Nat.{ℕ, _<_, _≤_}
 use native.Mathlib.Omega.{arith}
 use lib.ListN.{length, take}
 use Rattle.std.specs.Of.Vec.{vec-len, vec-items}
 use Rattle.bdd.specs.declared.store.nodes.Node.{Node}
-use Rattle.bdd.specs.Diagram.{Grown}
 use Rattle.bdd.specs.Sound.{nodesOf}
 use Rattle.bdd.proofs.Values.{grown-self, grown-on, grown-take}
 use Rattle.bdd.proofs.store.Table.cut.Needs as need

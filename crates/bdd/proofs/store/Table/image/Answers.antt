@@ -1,18 +1,14 @@
 -- The image of a node is the choice between those of its children.
-use borrow.Author.Needs.{needs}
-use mathlib.Core.Path.{_≡_, refl, sym, _∙_, ap, subst, fun-ext}
-use mathlib.Core.List.{List, [], _∷_, _++_}
+use mathlib.Core.Path.{_≡_, refl, sym, _∙_, ap, subst}
+use mathlib.Core.List.{List}
 use mathlib.Core.Logic.{inl, inr}
-use mathlib.Core.Bool.{Bool, true, false, cond, _&&_, not}
-use Prim.Native.Nat.{ℕ, _+_, _*_, _/_, _<_, _≤_}
-use native.Mathlib.Omega.{arith}
-use lib.ListN.{length, getD}
-use Rattle.std.specs.Of.Vec.{vec-len, vec-items}
+use mathlib.Core.Bool.{Bool, cond}
+use Prim.Native.Nat.{ℕ, _+_, _*_, _<_}
+use Rattle.std.specs.Of.Vec.{vec-items}
 use Rattle.bdd.specs.declared.store.nodes.Node.{Node}
 use Rattle.bdd.specs.declared.store.Table.{Table}
 use Rattle.std.proofs.shelf.Lists.{getD-read}
 use Rattle.bdd.specs.Diagram.{node, nodeAt, eval}
-use Rattle.bdd.specs.Laws.{TooMany}
 use Rattle.bdd.specs.Sound.{nodesOf}
 use Rattle.bdd.specs.Composing.{Is, NoRoom, Denotes, Extends, ChoiceStep, tested, composed, NodeStep, carried}
 use Rattle.bdd.proofs.Canon.{upd}

@@ -2,14 +2,14 @@
 use borrow.Author.Needs.{needs}
 use mathlib.Core.Path.{_≡_, refl, sym, _∙_, ap, subst}
 use mathlib.Core.List.{List, [], _∷_, _++_}
-use Prim.Native.Nat.{ℕ, _<_, _≤_, _-_, _+_}
+use Prim.Native.Nat.{ℕ, _<_, _-_, _+_}
 use native.Mathlib.Omega.{arith}
-use lib.ListN.{length, getD, set, length-set, length-append}
-use Rattle.std.specs.Of.Vec.{vec-len, vec-items, vec-cap}
+use lib.ListN.{length, getD, set, length-set}
+use Rattle.std.specs.Of.Vec.{vec-len, vec-items}
 use Rattle.std.proofs.shelf.Lists.{getD-read}
 use Rattle.bdd.specs.declared.store.nodes.Node.{Node}
 use Rattle.bdd.specs.Diagram.{node, nodeAt, Good, Grown, Fits}
-use Rattle.bdd.specs.Index.{bucketOf, LinkedBy, Linked}
+use Rattle.bdd.specs.Index.{bucketOf, LinkedBy}
 use Rattle.bdd.proofs.Values.{good-push, grown-push}
 use Rattle.bdd.proofs.Chains.{linked-push, right-kept}
 use Rattle.bdd.proofs.store.Table.link.Needs as need

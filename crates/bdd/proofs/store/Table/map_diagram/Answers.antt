@@ -1,10 +1,10 @@
 -- One image more, and a refusal as one of the whole composition.
 use borrow.Author.Needs.{needs}
-use mathlib.Core.Path.{_≡_, refl, sym, _∙_, ap, subst, fun-ext}
-use mathlib.Core.List.{List, [], _∷_, _++_}
-use mathlib.Core.Logic.{inl, inr, ⊎-elim}
+use mathlib.Core.Path.{_≡_, refl, sym, _∙_, ap, subst}
+use mathlib.Core.List.{List}
+use mathlib.Core.Logic.{⊎-elim}
 use mathlib.Core.Bool.{Bool, true, false}
-use Prim.Native.Nat.{ℕ, _+_, _*_, _/_, _<_, _≤_}
+use Prim.Native.Nat.{ℕ, _+_, _*_, _/_, _<_}
 use native.Mathlib.Omega.{arith}
 use lib.ListN.{length, getD, set}
 use Rattle.std.specs.Of.Vec.{vec-len, vec-items}
@@ -14,8 +14,8 @@ use Rattle.std.proofs.shelf.Tests.{cases-eq, both-ways}
 use Rattle.bdd.specs.declared.store.nodes.Node.{Node}
 use Rattle.bdd.specs.declared.store.Table.{Table}
 use Rattle.bdd.specs.Marking.{at, Marks}
-use Rattle.bdd.specs.Sound.{Sound, nodesOf}
-use Rattle.bdd.specs.Composing.{NoRoom, Denotes, Extends, composed, carried, NodeStep, ComposeStep, Mapping}
+use Rattle.bdd.specs.Sound.{nodesOf}
+use Rattle.bdd.specs.Composing.{NoRoom, Denotes, Extends, composed, NodeStep, ComposeStep, Mapping}
 use Rattle.bdd.proofs.Values.{grown-self}
 use Rattle.bdd.proofs.Composing.{room-before, room-more, extends-more, extends-on}
 use Rattle.bdd.proofs.Images.{carried-denotes, place-denotes, child-image, images-more, step-kept}

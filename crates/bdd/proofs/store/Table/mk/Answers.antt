@@ -1,13 +1,13 @@
 -- Straight or inverted, the node has the function that was asked for.
 use borrow.Author.Needs.{needs}
-use mathlib.Core.Path.{_≡_, sym, _∙_, ap, subst, refl}
-use mathlib.Core.List.{List, [], _∷_, _++_}
-use Prim.Native.Nat.{ℕ, _<_, _≤_, _/_}
+use mathlib.Core.Path.{sym, subst}
+use mathlib.Core.List.{List}
+use Prim.Native.Nat.{ℕ, _≤_, _/_}
 use native.Mathlib.Omega.{arith}
 use lib.ListN.{length}
-use Rattle.std.specs.Of.Vec.{vec-len, vec-items}
+use Rattle.std.specs.Of.Vec.{vec-items}
 use Rattle.bdd.specs.declared.store.nodes.Node.{Node}
-use Rattle.bdd.specs.Diagram.{node, nodeAt, Good, Grown, Fits, flip}
+use Rattle.bdd.specs.Diagram.{node, Fits, flip}
 use Rattle.bdd.specs.Sound.{Full}
 use Rattle.bdd.specs.Steps.{Made, Placed, Short}
 use Rattle.bdd.specs.Index.{Lacks}

@@ -1,12 +1,9 @@
 -- An empty table is sound.
-use borrow.Author.Needs.{needs}
 use mathlib.Core.Path.{_≡_, refl, sym, _∙_, ap, subst}
-use mathlib.Core.List.{List, []}
-use Prim.Native.Nat.{ℕ, _<_, _≤_}
+use mathlib.Core.List.{[]}
 use native.Mathlib.Omega.{arith}
 use lib.ListN.{length, getD, replicate, length-replicate, getD-replicate}
-use Rattle.std.specs.Of.Vec.{vec-len, vec-items, vec-cap}
-use Rattle.bdd.specs.declared.store.nodes.Node.{Node}
+use Rattle.std.specs.Of.Vec.{vec-len, vec-items}
 use Rattle.bdd.specs.Sound.{entry, entryAt}
 use Rattle.bdd.specs.Diagram.{Good}
 use Rattle.bdd.specs.Index.{LinkedBy}

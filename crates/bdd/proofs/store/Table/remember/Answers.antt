@@ -3,16 +3,15 @@ use borrow.Author.Needs.{needs}
 use mathlib.Core.Path.{_≡_, refl, sym, _∙_, ap, subst}
 use mathlib.Core.List.{List}
 use mathlib.Core.Logic.{⊎-elim}
-use Prim.Native.Nat.{ℕ, _<_, _≤_}
+use Prim.Native.Nat.{ℕ, _<_}
 use native.Mathlib.Omega.{arith}
-use lib.ListN.{length, getD, set, length-set}
-use Rattle.std.specs.Of.Vec.{vec-len, vec-items}
+use lib.ListN.{length, set, length-set}
+use Rattle.std.specs.Of.Vec.{vec-items}
 use Rattle.std.proofs.shelf.Lists.{getD-set-same, getD-set-other}
 use Rattle.std.proofs.shelf.Tests.{cases-eq}
 use Rattle.bdd.specs.declared.store.nodes.Node.{Node}
 use Rattle.bdd.specs.declared.store.cache.Entry.{Entry}
 use Rattle.bdd.specs.Sound.{entry, entryAt, Right}
-use Rattle.bdd.specs.Steps.{Both}
 use Rattle.bdd.proofs.Values.{grown-self}
 use Rattle.bdd.proofs.store.Table.remember.Needs as need
 

@@ -1,7 +1,5 @@
 -- The walk is on its way, and each turn goes down in one of the two diagrams.
-use Prim.Native.Nat.{ℕ, _+_, _/_, _<_, _≤_}
-use mathlib.Core.Path.{_≡_}
-use lib.ListN.{length}
+use Prim.Native.Nat.{_+_, _/_}
 use Rattle.std.specs.Of.Vec.{vec-items}
 use Rattle.bdd.specs.Codes.{Walking}
 use Rattle.bdd.proofs.store.Table.separate.Given as given

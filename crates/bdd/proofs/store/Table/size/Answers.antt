@@ -1,14 +1,11 @@
 -- Only marks change.
-use borrow.Author.Needs.{needs}
-use mathlib.Core.Path.{_≡_, refl, _∙_, sym, ap, subst}
+use mathlib.Core.Path.{_≡_, refl, subst}
 use mathlib.Core.List.{List}
-use mathlib.Core.Bool.{Bool}
 use Prim.Native.Nat.{ℕ}
 use Rattle.bdd.specs.declared.store.nodes.Node.{Node}
 use Rattle.bdd.specs.Diagram.{eval}
 use Rattle.bdd.specs.Size.{Ascending, sizeOf}
 use Rattle.bdd.specs.Laws.{Inputs}
-use Rattle.bdd.specs.Sound.{nodesOf}
 use Rattle.bdd.proofs.store.Table.size.Needs as need
 
 pub returns : need.returns

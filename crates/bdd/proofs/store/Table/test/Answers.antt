@@ -2,19 +2,15 @@
 use borrow.Author.Needs.{needs}
 use mathlib.Core.Path.{_≡_, refl, sym, _∙_, ap, subst, fun-ext}
 use mathlib.Core.List.{List, [], _∷_, _++_}
-use mathlib.Core.Logic.{inl, inr}
-use mathlib.Core.Bool.{Bool, true, false, cond, _&&_, not}
-use Prim.Native.Nat.{ℕ, _+_, _*_, _/_, _<_, _≤_}
+use mathlib.Core.Bool.{Bool, cond}
+use Prim.Native.Nat.{ℕ, _+_}
 use native.Mathlib.Omega.{arith}
-use lib.ListN.{length, getD}
-use Rattle.std.specs.Of.Vec.{vec-len, vec-items}
+use lib.ListN.{length}
+use Rattle.std.specs.Of.Vec.{vec-len}
 use Rattle.bdd.specs.declared.store.nodes.Node.{Node}
-use Rattle.bdd.specs.declared.store.Table.{Table}
-use lib.Dec.{eqb}
 use Rattle.std.proofs.shelf.Tests.{eq-eqb, ne-eqb}
 use Rattle.bdd.specs.Diagram.{eval}
 use Rattle.bdd.specs.Parts.{PartOf}
-use Rattle.bdd.specs.Laws.{TooMany}
 use Rattle.bdd.specs.Sound.{nodesOf}
 use Rattle.bdd.specs.Composing.{Is, tested}
 use Rattle.bdd.proofs.Values.{grown-self}

@@ -1,8 +1,6 @@
 -- Only marks change.
-use borrow.Author.Needs.{needs}
-use mathlib.Core.Path.{_≡_, refl, _∙_, sym, ap, subst}
+use mathlib.Core.Path.{refl, subst}
 use mathlib.Core.List.{List}
-use mathlib.Core.Bool.{Bool}
 use Prim.Native.Nat.{ℕ, _<_}
 use Rattle.std.specs.Options.{Cases}
 use Rattle.bdd.specs.declared.store.nodes.Node.{Node}

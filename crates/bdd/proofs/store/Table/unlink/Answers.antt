@@ -2,12 +2,12 @@
 use borrow.Author.Needs.{needs}
 use mathlib.Core.Path.{_≡_, refl, sym, _∙_, ap, subst}
 use mathlib.Core.List.{List, [], _∷_, _++_}
-use Prim.Native.Nat.{ℕ, _<_, _≤_, _-_, _+_}
+use Prim.Native.Nat.{ℕ, _<_, _-_, _+_}
 use native.Mathlib.Omega.{arith}
-use lib.ListN.{length, getD, set, length-set, length-append}
-use Rattle.std.specs.Of.Vec.{vec-len, vec-items, vec-cap}
+use lib.ListN.{length, set, length-set, length-append}
+use Rattle.std.specs.Of.Vec.{vec-items}
 use Rattle.bdd.specs.declared.store.nodes.Node.{Node}
-use Rattle.bdd.specs.Diagram.{node, nodeAt, Good, Grown}
+use Rattle.bdd.specs.Diagram.{Good, Grown}
 use Rattle.bdd.specs.Index.{bucketOf, LinkedBy}
 use Rattle.bdd.proofs.Values.{grown-push}
 use Rattle.bdd.proofs.Chains.{linked-pop, good-pop}

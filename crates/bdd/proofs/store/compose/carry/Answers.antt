@@ -1,7 +1,6 @@
 -- The image of the place, turned as the edge is.
-use borrow.Author.Needs.{needs}
 use mathlib.Core.Path.{_≡_, sym, _∙_, ap}
-use Prim.Native.Nat.{ℕ, _/_}
+use Prim.Native.Nat.{_/_}
 use Rattle.bdd.specs.Diagram.{flip}
 use Rattle.bdd.specs.Composing.{imageAt}
 use Rattle.bdd.proofs.Values.{turn-even, turn-odd}

@@ -1,6 +1,5 @@
 -- As many nodes are marked as the function has parts.
-use borrow.Author.Needs.{needs}
-use mathlib.Core.Path.{_≡_, _∙_}
+use mathlib.Core.Path.{_∙_}
 use Prim.Native.Nat.{_/_}
 use native.Mathlib.Omega.{arith}
 use Rattle.bdd.specs.Marking.{at}

@@ -1,5 +1,4 @@
 -- The bucket is the definition, computed.
-use borrow.Author.Needs.{needs}
 use mathlib.Core.Path.{refl}
 use native.Mathlib.Omega.{arith}
 use Rattle.bdd.specs.Index.{bucketOf}

@@ -3,8 +3,7 @@ use borrow.Author.Count.{below-more}
 use native.Mathlib.Omega.{arith}
 use mathlib.Core.Path.{_≡_, _∙_}
 use mathlib.Core.Bool.{false}
-use Prim.Native.Nat.{_<_}
-use lib.ListN.{length, set}
+use lib.ListN.{set}
 use Rattle.bdd.specs.Marking.{at}
 use Rattle.std.proofs.shelf.Lists.{getD-set-same, getD-set-other}
 use Rattle.bdd.proofs.store.marking.clear.Needs as need

@@ -1,13 +1,10 @@
 -- A child of a node lies before it, so it has a mark.
 use borrow.Author.Needs.{needs}
-use mathlib.Core.Path.{_≡_, refl, sym, _∙_, ap, subst}
+use mathlib.Core.Path.{_≡_}
 use mathlib.Core.List.{List}
-use Prim.Native.Nat.{ℕ, _<_, _≤_, _/_}
 use native.Mathlib.Omega.{arith}
 use lib.ListN.{length}
-use Rattle.std.specs.Of.Vec.{vec-len, vec-items}
 use Rattle.bdd.specs.declared.store.nodes.Node.{Node}
-use Rattle.bdd.specs.Diagram.{node, nodeAt}
 use Rattle.bdd.proofs.store.marking.mark_children.Needs as need
 
 pub mark-requires : need.mark-requires

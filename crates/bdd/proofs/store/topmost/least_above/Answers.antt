@@ -1,6 +1,5 @@
 -- Node i is the new least, or the old one stays.
-use borrow.Author.Needs.{needs}
-use mathlib.Core.Path.{_≡_, sym, subst}
+use mathlib.Core.Path.{sym, subst}
 use mathlib.Core.Logic.{inl, inr}
 use Prim.Native.Nat.{ℕ, _+_}
 use Rattle.bdd.specs.Marking.{at}

@@ -1,5 +1,4 @@
 -- The least variable of a marked node is the topmost that the function depends on.
-use borrow.Author.Needs.{needs}
 use Prim.Native.Nat.{_/_}
 use native.Mathlib.Omega.{arith}
 use Rattle.bdd.specs.Marking.{at}
