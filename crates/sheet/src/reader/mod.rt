@@ -1,0 +1,20 @@
+ghost use Prim.Native.Nat.{_≤_};
+ghost use denote.Ref.{now};
+ghost use lib.ListN.{length};
+
+/// A place in the bytes of a sheet.
+#[derive(Clone, Copy)]
+pub struct Reader<'a> {
+    pub sheet: &'a [u8],
+    pub place: usize,
+    ghost inside: { place ≤ length (now sheet) },
+}
+
+mod fields;
+mod gates;
+mod outputs;
+mod sections;
+mod starts;
+
+pub use outputs::visible;
+pub use sections::check;

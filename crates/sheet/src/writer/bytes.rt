@@ -1,0 +1,36 @@
+ghost use mathlib.Core.Path.{_≡_};
+ghost use mathlib.Core.List.{_++_};
+ghost use Prim.Native.Nat.{_+_, _≤_};
+ghost use lib.ListN.{length, take, drop};
+ghost use Rattle.sheet.specs.Format.{number-bytes, gate-bytes};
+use crate::gate::Gate;
+
+/// The two bytes of a number.
+pub fn number_bytes(n: u16) -> [u8; 2]
+    ensures { λ r. ⌜ r ≡ number-bytes n ⌝ }
+{
+    [(n / 256) as u8, (n % 256) as u8]
+}
+
+/// The seven bytes of a gate record.
+pub fn gate_bytes(g: Gate) -> [u8; 7]
+    ensures { λ r. ⌜ r ≡ gate-bytes g ⌝ }
+{
+    [
+        g.kind,
+        (g.a / 256) as u8,
+        (g.a % 256) as u8,
+        (g.b / 256) as u8,
+        (g.b % 256) as u8,
+        (g.c / 256) as u8,
+        (g.c % 256) as u8,
+    ]
+}
+
+/// Writes some bytes at a place.
+pub fn put(place: &mut [u8], at: usize, bytes: &[u8])
+    requires { ⌜ at + length (now bytes) ≤ length (now place) ⌝ }
+    ensures { λ _. ⌜ now (place .exit) ≡ take at (now (place .entry)) ++ (now (bytes .entry) ++ drop (at + length (now (bytes .entry))) (now (place .entry))) ⌝ }
+{
+    place[at..at + bytes.len()].copy_from_slice(bytes);
+}
