@@ -1,17 +1,19 @@
 -- The parts of a sheet without fault.
 use mathlib.Core.Path.{_≡_, refl, sym, ap, subst, _∙_}
 use mathlib.Core.List.{List, [], _∷_, _++_}
-use Prim.Native.Nat.{ℕ, zero, suc, _+_, _-_, _*_, _/_, _%_, _<_, _≤_}
+use Prim.Native.Nat.{ℕ, zero, suc, _+_, _-_, _*_, _<_, _≤_}
 use native.Mathlib.Omega.{arith}
 use lib.ListN.{length, take, drop, getD}
 use Rattle.std.specs.Joined.{joined}
-use Rattle.std.proofs.shelf.Lists.{drop-drop, length-drop, length-push, take-rest, getD-drop, length-append, drop-at, take-at, drop-more}
+use Rattle.std.proofs.shelf.Lists.{drop-drop, length-append, drop-at, take-at}
 use Rattle.sheet.specs.declared.gate.Gate.{Gate}
 use Rattle.sheet.specs.declared.shape.Shape.{Shape}
-use Rattle.sheet.specs.Format.{Content, decode, content, encode, gate-bytes, number-bytes, output-bytes, Output}
-use Rattle.sheet.specs.Laws.{Gate-fits, Next-gate-fits, Each-fits}
+use Rattle.sheet.specs.Format.{Content, encode, gate-bytes, number-bytes, output-bytes, Output}
 use Rattle.sheet.specs.Record.{Seven}
-use Rattle.sheet.specs.Sections.{Accepted, Gate-of, Output-of}
+use Rattle.sheet.specs.Sections.{Bytes-say, Ahead, item}
+use Rattle.sheet.specs.Names.{Split, Cut-off}
+use Rattle.sheet.specs.declared.records.OutputRecords.{OutputRecords}
+use Rattle.std.specs.declared.option.Option.the-variants.{Some, None}
 use Rattle.sheet.proofs.Fields.{whole-number}
 
 -- the bytes from the gate `k` on
@@ -27,13 +29,6 @@ gates-drop (suc k) (g ∷ gs) ys d h =
 same-gate : (g h : Gate) (zs : List ℕ) → Seven (gate-bytes g ++ zs) h → h ≡ g
 same-gate g h zs s = λ i. record { kind = s .kind i; a = (s .a ∙ whole-number (g .a)) i; b = (s .b ∙ whole-number (g .b)) i; c = (s .c ∙ whole-number (g .c)) i }
 
-each-fits : (inputs k : ℕ) (done gs : List Gate) (d : Gate) → k < length gs → Each-fits (Next-gate-fits inputs) done gs → Gate-fits (inputs + 2 + (length done + k)) (getD gs k d)
-each-fits inputs k done [] d h f = absurd (omega arith)
-each-fits inputs zero done (g ∷ gs) d h f = let e : length done ≡ length done + 0 = omega arith in subst (λ n. Gate-fits (inputs + 2 + n) g) e (f .0)
-each-fits inputs (suc k) done (g ∷ gs) d h f =
-    let e : length (done ++ g ∷ []) + k ≡ length done + suc k = omega (arith, length-push done g) in
-    subst (λ n. Gate-fits (inputs + 2 + n) (getD gs k d)) e (each-fits inputs k (done ++ g ∷ []) gs d (omega arith) (f .1))
-
 pub record At-gate (bs : List ℕ) (c : Content) (k : ℕ) (d : Gate) : Type 0 where
   pub rest : List ℕ
   pub is : drop (5 + 7 * k) bs ≡ gate-bytes (getD (c .gates) k d) ++ rest
@@ -43,47 +38,71 @@ at-gate bs c k d e h =
     let r = gates-drop k (c .gates) (number-bytes (length (c .outputs)) ++ joined output-bytes (c .outputs)) d h in
     record { rest = r .0; is = ap (drop (5 + 7 * k)) (sym e) ∙ sym (drop-drop (7 * k) 5 (encode c)) ∙ r .1 }
 
-pub room : (bs : List ℕ) (s : Shape) (k : ℕ) → Accepted bs s → k < s .gates → 7 ≤ length bs - (5 + 7 * k)
-room bs s k a h =
+pub item-at : {X : Type 0} (xs : List X) (k : ℕ) (d : X) → k < length xs → Some (getD xs k d) ≡ item xs k
+item-at [] k d h = absurd (omega arith)
+item-at (x ∷ xs) zero d h = refl
+item-at (x ∷ xs) (suc k) d h = item-at xs k d (omega arith)
+
+pub item-past : {X : Type 0} (xs : List X) (k : ℕ) → length xs ≤ k → None ≡ item xs k
+item-past [] k h = refl
+item-past (x ∷ xs) zero h = absurd (omega arith)
+item-past (x ∷ xs) (suc k) h = item-past xs k (omega arith)
+
+pub item-drop : {X : Type 0} (xs : List X) (k : ℕ) → item (drop k xs) 0 ≡ item xs k
+item-drop [] zero = refl
+item-drop [] (suc k) = refl
+item-drop (x ∷ xs) zero = refl
+item-drop (x ∷ xs) (suc k) = item-drop xs k
+
+many-gates : (bs : List ℕ) (s : Shape) (c : Content) → Bytes-say bs s c → s .gates ≡ length (c .gates)
+many-gates bs s c a = ap (λ t. t .gates) (a .shape)
+
+pub no-gate : (bs : List ℕ) (s : Shape) (c : Content) (k : ℕ) → s .gates ≤ k → Bytes-say bs s c → None ≡ item (c .gates) k
+no-gate bs s c k h a = item-past (c .gates) k (omega (arith, many-gates bs s c a))
+
+pub gate-item : (bs : List ℕ) (s : Shape) (c : Content) (k : ℕ) (g : Gate) → k < s .gates → Seven (drop (5 + 7 * k) bs) g → Bytes-say bs s c → Some g ≡ item (c .gates) k
+gate-item bs s c k g h sv a =
+    let inside : k < length (c .gates) = omega (arith, many-gates bs s c a) in
+    let at = at-gate bs c k g (a .again) inside in
+    let here : Seven (gate-bytes (getD (c .gates) k g) ++ at .rest) g = subst (λ l. Seven l g) (at .is) sv in
+    ap Some (same-gate (getD (c .gates) k g) g (at .rest) here) ∙ item-at (c .gates) k g inside
+
+pub gate-there : (bs : List ℕ) (s : Shape) (c : Content) (k : ℕ) → k < s .gates → length (drop (5 + 7 * k) bs) < 7 → Bytes-say bs s c → ⊥
+gate-there bs s c k h short a =
     let d : Gate = record { kind = 0; a = 0; b = 0; c = 0 } in
-    let g = at-gate bs (a .says) k d (a .again) (omega (arith, ap (λ t. t .gates) (a .shape))) in
-    let l : 7 ≤ length (gate-bytes (getD (a .says .gates) k d) ++ g .rest) = omega arith in
-    omega (arith, ap length (g .is), length-drop (5 + 7 * k) bs)
+    let g = at-gate bs c k d (a .again) (omega (arith, many-gates bs s c a)) in
+    let l : 7 ≤ length (gate-bytes (getD (c .gates) k d) ++ g .rest) = omega arith in
+    omega (arith, ap length (g .is))
 
-pub gate-of : (bs : List ℕ) (s : Shape) (k : ℕ) (g : Gate) → Accepted bs s → k < s .gates → Seven (take (length bs - (5 + 7 * k)) (drop (5 + 7 * k) bs)) g → Gate-of bs k g
-gate-of bs s k g a h sv c e =
-    let same : a .says ≡ c = (let d = a .decodes in cc) in
-    let inside : k < length (c .gates) = omega (arith, ap (λ t. t .gates) (a .shape), ap (λ t. length (t .gates)) same) in
-    let at = at-gate bs c k g (sym (ap encode same) ∙ a .again) inside in
-    let here : Seven (gate-bytes (getD (c .gates) k g) ++ at .rest) g = subst (λ l. Seven l g) (take-rest bs (5 + 7 * k) ∙ at .is) sv in
-    let is : g ≡ getD (c .gates) k g = same-gate (getD (c .gates) k g) g (at .rest) here in
-    (inside, is, subst (λ n. Gate-fits (c .inputs + 2 + n) g) (let z : 0 + k ≡ k = omega arith in z) (subst (Gate-fits (c .inputs + 2 + (0 + k))) (sym is) (each-fits (c .inputs) k [] (c .gates) g inside (subst (λ t. Each-fits (Next-gate-fits (t .inputs)) [] (t .gates)) same (a .lawful .gates)))))
+-- the record at the front of the bytes of an output is that output
+split-is : (xs : List ℕ) (o p : Output) (ys zs : List ℕ) → xs ≡ output-bytes o ++ ys → Split xs p zs → (p ≡ o) × (zs ≡ ys)
+split-is xs o p ys zs e s =
+    let size : getD xs 2 0 ≡ length (o .name) = ap (λ l. getD l 2 0) e in
+    let tail : drop 3 xs ≡ o .name ++ ys = ap (drop 3) e in
+    let sig : p .signal ≡ o .signal = s .signal ∙ ap (λ l. 256 * getD l 0 0 + getD l 1 0) e ∙ whole-number (o .signal) in
+    let name : p .name ≡ o .name = s .name ∙ (λ i. take (size i) (tail i)) ∙ take-at (o .name) ys _ refl in
+    ((λ i. record { signal = sig i; name = name i }), s .rest ∙ (λ i. drop (size i) (tail i)) ∙ drop-at (o .name) ys _ refl)
 
--- an output record that stands at `place`
-pub record Found (bs : List ℕ) (place : ℕ) (o : Output) (ys : List ℕ) : Type 0 where
-  pub size : getD bs (place + 2) 0 ≡ length (o .name)
-  pub room : place + 3 + getD bs (place + 2) 0 ≤ length bs
-  pub next : drop (place + 3 + getD bs (place + 2) 0) bs ≡ ys
-  pub signal : 256 * getD bs place 0 + getD bs (place + 1) 0 ≡ o .signal
-  pub name : take (getD bs (place + 2) 0) (drop (place + 3) bs) ≡ o .name
+not-cut : (xs : List ℕ) (o : Output) (ys : List ℕ) → xs ≡ output-bytes o ++ ys → Cut-off xs → ⊥
+not-cut xs o ys e cut =
+    let size : getD xs 2 0 ≡ length (o .name) = ap (λ l. getD l 2 0) e in
+    let tail : length (drop 3 xs) ≡ length (o .name ++ ys) = ap (λ l. length (drop 3 l)) e in
+    let long : length xs ≡ length (output-bytes o ++ ys) = ap length e in
+    cut (omega arith) (omega (arith, length-append (o .name) ys))
 
-pub found : (bs : List ℕ) (place : ℕ) (o : Output) (ys : List ℕ) → drop place bs ≡ output-bytes o ++ ys → Found bs place o ys
-found bs place o ys e =
-    let at : (i : ℕ) → getD bs (place + i) 0 ≡ getD (output-bytes o ++ ys) i 0 = λ i. sym (getD-drop place bs i 0) ∙ ap (λ l. getD l i 0) e in
-    let size : getD bs (place + 2) 0 ≡ length (o .name) = at 2 in
-    let z : place + 0 ≡ place = omega arith in
-    let first : getD bs place 0 ≡ o .signal / 256 = ap (λ n. getD bs n 0) (sym z) ∙ at 0 in
-    let second : getD bs (place + 1) 0 ≡ o .signal % 256 = at 1 in
-    let tail : drop (place + 3) bs ≡ o .name ++ ys = sym (drop-drop 3 place bs) ∙ ap (drop 3) e in
-    let l : length bs - place ≡ length (output-bytes o ++ ys) = sym (length-drop place bs) ∙ ap length e in
-    let m = length-append (o .name) ys in
-    record {
-      size = size;
-      room = omega arith;
-      next = sym (drop-drop (getD bs (place + 2) 0) (place + 3) bs) ∙ (λ i. drop (size i) (tail i)) ∙ drop-at (o .name) ys _ refl;
-      signal = (λ i. 256 * first i + second i) ∙ whole-number (o .signal);
-      name = (λ i. take (size i) (tail i)) ∙ take-at (o .name) ys _ refl;
-    }
+pub ahead-none : (w : OutputRecords) (os : List Output) → w .left ≡ 0 → Ahead w os → (None ≡ item os 0) × Ahead w (drop 1 os)
+ahead-none w [] z a = (refl, a)
+ahead-none w (o ∷ os) z a = absurd (omega (arith, a .count))
+
+pub ahead-cut : (w : OutputRecords) (os : List Output) → (w .left ≡ 0 → ⊥) → Cut-off (w .rest .now) → Ahead w os → ⊥
+ahead-cut w [] z cut a = z (sym (a .count))
+ahead-cut w (o ∷ os) z cut a = not-cut (w .rest .now) o (joined output-bytes os) (a .is) cut
+
+pub ahead-more : (w v : OutputRecords) (os : List Output) (p : Output) (ys : List ℕ) → (w .left ≡ 0 → ⊥) → Split (w .rest .now) p ys → v .rest .now ≡ ys → v .left ≡ w .left - 1 → Ahead w os → (Some p ≡ item os 0) × Ahead v (drop 1 os)
+ahead-more w v [] p ys z s e l a = absurd (z (sym (a .count)))
+ahead-more w v (o ∷ os) p ys z s e l a =
+    let q = split-is (w .rest .now) o p (joined output-bytes os) ys (a .is) s in
+    (ap Some (q .0), record { is = e ∙ q .1; count = omega (arith, l, a .count) })
 
 gates-long : (gs : List Gate) → length (joined gate-bytes gs) ≡ 7 * length gs
 gates-long [] = refl
@@ -96,35 +115,11 @@ outputs-from bs c e =
     let a : 7 + n ≡ 5 + (n + 2) = omega arith in
     ap (drop (7 + n)) (sym e) ∙ ap (λ m. drop m (encode c)) a ∙ sym (drop-drop (n + 2) 5 (encode c)) ∙ sym (drop-drop 2 n (joined gate-bytes (c .gates) ++ z)) ∙ ap (drop 2) (drop-at (joined gate-bytes (c .gates)) z n (gates-long (c .gates)))
 
--- a walk over the outputs has come to the output `i`
-pub record Walking (bs : List ℕ) (i place : ℕ) : Type 0 where
-  pub room : place + 3 + getD bs (place + 2) 0 ≤ length bs
-  pub is : (c : Content) → decode bs ≡ content c → drop place bs ≡ joined output-bytes (drop i (c .outputs))
+pub all-ahead : (bs : List ℕ) (s : Shape) (c : Content) (w : OutputRecords) → w .rest .now ≡ drop (7 + 7 * s .gates) bs → w .left ≡ s .outputs → Bytes-say bs s c → Ahead w (c .outputs)
+all-ahead bs s c w r l a = record {
+  is = r ∙ ap (λ t. drop (7 + 7 * t .gates) bs) (a .shape) ∙ outputs-from bs c (a .again);
+  count = sym (l ∙ ap (λ t. t .outputs) (a .shape));
+}
 
-none : Output
-none = record { signal = 0; name = [] }
-
-output-at : (os : List Output) (k : ℕ) (d : Output) (bs : List ℕ) (place : ℕ) → k < length os → drop place bs ≡ joined output-bytes (drop k os) → Found bs place (getD os k d) (joined output-bytes (drop (k + 1) os))
-output-at os k d bs place h e = found bs place (getD os k d) _ (e ∙ ap (joined output-bytes) (drop-more os k d h))
-
-walking : (bs : List ℕ) (s : Shape) (i place : ℕ) → (a : Accepted bs s) → i < s .outputs → drop place bs ≡ joined output-bytes (drop i (a .says .outputs)) → Walking bs i place
-walking bs s i place a h e =
-    let f = output-at (a .says .outputs) i none bs place (omega (arith, ap (λ t. t .outputs) (a .shape))) e in
-    record { room = f .room; is = λ c d. (let same : a .says ≡ c = (let q = a .decodes in cc) in e ∙ ap (λ t. joined output-bytes (drop i (t .outputs))) same) }
-
-pub walk-start : (bs : List ℕ) (s : Shape) → Accepted bs s → 0 < s .outputs → Walking bs 0 (7 + 7 * s .gates)
-walk-start bs s a h = walking bs s 0 (7 + 7 * s .gates) a h (ap (λ t. drop (7 + 7 * t .gates) bs) (a .shape) ∙ outputs-from bs (a .says) (a .again))
-
-pub walk-more : (bs : List ℕ) (s : Shape) (i place : ℕ) → Accepted bs s → i + 1 < s .outputs → Walking bs i place → Walking bs (i + 1) (place + 3 + getD bs (place + 2) 0)
-walk-more bs s i place a h w =
-    let f = output-at (a .says .outputs) i none bs place (omega (arith, ap (λ t. t .outputs) (a .shape))) (w .is (a .says) (a .decodes)) in
-    walking bs s (i + 1) _ a h (f .next)
-
-pub walk-end : (bs : List ℕ) (s : Shape) (k place n : ℕ) → Accepted bs s → k < s .outputs → Walking bs k place → n ≡ 256 * getD bs place 0 + getD bs (place + 1) 0
-    → Output-of bs k (record { signal = n; name = take (place + 3 + getD bs (place + 2) 0 - (place + 3)) (drop (place + 3) bs) })
-walk-end bs s k place n a h w e c d =
-    let same : a .says ≡ c = (let q = a .decodes in cc) in
-    let inside : k < length (c .outputs) = omega (arith, ap (λ t. t .outputs) (a .shape), ap (λ t. length (t .outputs)) same) in
-    let f = output-at (c .outputs) k (record { signal = n; name = take (place + 3 + getD bs (place + 2) 0 - (place + 3)) (drop (place + 3) bs) }) bs place inside (w .is c d) in
-    let z : place + 3 + getD bs (place + 2) 0 - (place + 3) ≡ getD bs (place + 2) 0 = omega arith in
-    (inside, λ i. record { signal = (e ∙ f .signal) i; name = (ap (λ m. take m (drop (place + 3) bs)) z ∙ f .name) i })
+pub ahead-step : (w : OutputRecords) (os : List Output) (i : ℕ) → Ahead w (drop 1 (drop i os)) → Ahead w (drop (i + 1) os)
+ahead-step w os i a = subst (Ahead w) (drop-drop 1 i os) a

@@ -10,13 +10,14 @@ use lib.Dec.{leb}
 use Rattle.std.specs.declared.result.Result.{Result}
 use Rattle.std.specs.declared.result.Result.the-variants.{Ok, Err}
 use Rattle.sheet.specs.declared.fault.FieldFault.{FieldFault}
-use Rattle.sheet.specs.declared.fault.Fault.{Fault}
+use Rattle.sheet.specs.declared.fault.SheetFault.{SheetFault}
 use Rattle.sheet.specs.declared.fault.Flaw.the-variants.{Extra, Count}
 use Rattle.sheet.specs.declared.gate.Gate.{Gate}
 use Rattle.sheet.specs.declared.reader.Reader.{Reader}
 use Rattle.sheet.specs.Reading.{Read, got, bad, Wrong, wrong, number, judged, records}
 use Rattle.gates.specs.Kinds.{between}
-use Rattle.sheet.specs.Format.{next-gate, Output, within, edition, input-section, gate-section, output-section, end, sheet, placed, decode, content, fault, number-of}
+use Rattle.sheet.specs.Format.{next-gate, Output, within, edition, input-section, gate-section, output-section, end, sheet, placed, decode, content, fault}
+use Rattle.sheet.specs.Numbers.{number-of}
 use Rattle.sheet.specs.View.{left, counted, Step, Step-by}
 use Rattle.sheet.specs.Sections.{located, Accepted}
 use Rattle.sheet.specs.Laws.{Bytes}
@@ -28,7 +29,7 @@ pub located-ok : {X : Type 0} (s : ℕ) (r : Result X FieldFault) (x : X) → lo
 located-ok s (Ok y) x e = let same : y ≡ x = cc in cc
 located-ok s (Err f) x e = absurd (let z : _≡_ {A = ℕ} 0 1 = cc in omega arith)
 
-pub located-err : {X : Type 0} (s : ℕ) (r : Result X FieldFault) (f : Fault) → located s r ≡ Err f → (e : FieldFault) × (r ≡ Err e) × (f ≡ record { flaw = e .flaw; section = s; place = e .place })
+pub located-err : {X : Type 0} (s : ℕ) (r : Result X FieldFault) (f : SheetFault) → located s r ≡ Err f → (e : FieldFault) × (r ≡ Err e) × (f ≡ record { flaw = e .flaw; section = s; place = e .place })
 located-err s (Ok y) f e = absurd (let z : _≡_ {A = ℕ} 0 1 = cc in omega arith)
 located-err s (Err g) f e = (g, refl, (cc))
 
@@ -116,14 +117,15 @@ pub all-read : (bs : List ℕ) (i n m : ℕ) (at : Reader) → ((k : ℕ) → ge
 all-read bs i n m at t r h =
     let e : left at ≡ [] = drop-all (at .place) (at .sheet .now) (omega (arith, ap length (r .same))) in
     let d : decode bs ≡ content (record { inputs = i; gates = r .gs; outputs = r .os }) = ap (placed (length bs)) (r .at-end 0 (ap end e)) in
-    let law = encode-decode bs (record { inputs = i; gates = r .gs; outputs = r .os }) (bytes-from bs t) d in
-    record {
-      says = record { inputs = i; gates = r .gs; outputs = r .os };
-      decodes = d;
-      shape = λ j. record { inputs = i; gates = sym (r .many-gates) j; outputs = sym (r .many-outputs) j };
-      lawful = law .0;
-      again = law .1;
-    }
+    let law = encode-decode bs (record { inputs = i; gates = r .gs; outputs = r .os }) (bytes-from bs t) d in (
+      record { inputs = i; gates = r .gs; outputs = r .os },
+      record {
+        decodes = d;
+        shape = λ j. record { inputs = i; gates = sym (r .many-gates) j; outputs = sym (r .many-outputs) j };
+        lawful = law .0;
+        again = law .1;
+      },
+    )
 
 extra : (xs : List ℕ) → 0 < length xs → end xs ≡ wrong Extra (length xs)
 extra [] h = absurd (omega arith)

@@ -6,7 +6,7 @@ use Prim.Native.Nat.{ℕ, zero, suc, _+_, _-_, _<_, _≤_}
 use native.Mathlib.Omega.{arith}
 use lib.ListN.{length, take, drop, getD}
 use lib.Dec.{leb}
-use Rattle.std.proofs.shelf.Lists.{length-drop, drop-drop, getD-drop, map-push, at-drop-more, at-drop-all}
+use Rattle.std.proofs.shelf.Lists.{map-push, at-drop-more, at-drop-all}
 use Rattle.std.proofs.shelf.Equals.{matches-decides, sameBytes-decides}
 use Rattle.std.proofs.shelf.Ways.{same-from-decides}
 use Rattle.std.specs.Orderings.{Decides}
@@ -17,7 +17,7 @@ use Rattle.sheet.specs.declared.fault.Flaw.the-variants.{Name}
 use Rattle.sheet.specs.Reading.{got, byte, number, bytes, judged, records}
 use Rattle.sheet.specs.Format.{Output, output, next-output, names, operand, operand-fits, operand-flaw, name-fits, used, visible}
 use Rattle.gates.specs.Kinds.{between}
-use Rattle.sheet.specs.Names.{skim, Room}
+use Rattle.sheet.specs.Names.{skim, Room, Split, Cut-off}
 use Rattle.sheet.proofs.Fields.{parts, judged-got, byte-got, passed, never, got-same}
 
 pub record Raw (xs name ys : List ℕ) : Type 0 where
@@ -69,61 +69,57 @@ skimmed signals (suc n) done xs all ys e =
     let p = parts (next-output signals done xs) _ all ys e in
     one-more n done xs (p .value) (p .rest) all (raw signals (names done) xs (p .value) (p .rest) (p .first)) (skimmed signals n (done ++ p .value ∷ []) (p .rest) all ys (p .then))
 
--- a search among the names that are left, at `place`
-pub record Looking (s name : List ℕ) (count : ℕ) (start : List ℕ) (k place : ℕ) : Type 0 where
-  pub inside : place ≤ length s
-  pub room : Room (count - k) (drop place s)
-  pub same : used name (skim (count - k) (drop place s)) ≡ used name (skim count start)
+-- a search has passed `k` of `count` outputs, and has these bytes left
+pub record Looking (name outputs : List ℕ) (count k : ℕ) (rest : List ℕ) : Type 0 where
+  pub room : Room (count - k) rest
+  pub same : used name (skim (count - k) rest) ≡ used name (skim count outputs)
 
-pub record Looked (s name : List ℕ) (count : ℕ) (start : List ℕ) (k place : ℕ) : Type 0 where
-  pub room : place + 3 + getD s (place + 2) 0 ≤ length s
-  pub found : sameBytes (take (getD s (place + 2) 0) (drop (place + 3) s)) name ≡ true → used name (skim count start) ≡ true
-  pub other : sameBytes (take (getD s (place + 2) 0) (drop (place + 3) s)) name ≡ false → Looking s name count start (k + 1) (place + 3 + getD s (place + 2) 0)
+pub record Looked (name outputs : List ℕ) (count k : ℕ) (o : Output) (ys : List ℕ) : Type 0 where
+  pub found : sameBytes (o .name) name ≡ true → used name (skim count outputs) ≡ true
+  pub other : sameBytes (o .name) name ≡ false → Looking name outputs count (k + 1) ys
 
-look-at : (s name : List ℕ) (count : ℕ) (start : List ℕ) (k place m : ℕ) → count - k ≡ suc m → count - (k + 1) ≡ m → Looking s name count start k place → Looked s name count start k place
-look-at s name count start k place m e e′ l =
-    let size : ℕ = getD s (place + 2) 0 in
-    let xs : List ℕ = drop place s in
-    let t : List ℕ = drop (place + 3) s in
-    let P : ℕ → Type 0 = λ n. Room n xs in
-    let all : Room (suc m) xs = subst P e (l .room) in
-    let sz : getD xs 2 0 ≡ size = getD-drop place s 2 0 in
-    let d3 : drop 3 xs ≡ t = drop-drop 3 place s in
-    let dn : drop size t ≡ drop (place + 3 + size) s = drop-drop size (place + 3) s in
-    let here : (sameBytes (take (getD xs 2 0) (drop 3 xs)) name || used name (skim m (drop (getD xs 2 0) (drop 3 xs)))) ≡ (sameBytes (take size t) name || used name (skim m (drop size t))) =
-    λ i. sameBytes (take (sz i) (d3 i)) name || used name (skim m (drop (sz i) (d3 i))) in
-    let q : (sameBytes (take size t) name || used name (skim m (drop size t))) ≡ used name (skim count start) = sym here ∙ (ap (λ n. used name (skim n xs)) (sym e) ∙ l .same) in
-    let fits : place + 3 + size ≤ length s = omega (arith, all .0, all .1, length-drop place s, length-drop 3 xs, sz) in
-    let R : List ℕ → Type 0 = λ z. Room m z in
-    let S : ℕ → Type 0 = λ n. Room n (drop (place + 3 + size) s) in
-    let there : drop (getD xs 2 0) (drop 3 xs) ≡ drop size t = λ i. drop (sz i) (d3 i) in
+look-at : (name outputs : List ℕ) (count k : ℕ) (rest : List ℕ) (o : Output) (ys : List ℕ) (m : ℕ) → count - k ≡ suc m → count - (k + 1) ≡ m → Looking name outputs count k rest → Split rest o ys → Looked name outputs count k o ys
+look-at name outputs count k rest o ys m e e′ l s =
+    let P : ℕ → Type 0 = λ n. Room n rest in
+    let Q : List ℕ → Type 0 = λ z. Room m z in
+    let R : ℕ → Type 0 = λ n. Room n ys in
+    let all : Room (suc m) rest = subst P e (l .room) in
+    let q : used name (skim (suc m) rest) ≡ used name (skim count outputs) = ap (λ n. used name (skim n rest)) (sym e) ∙ l .same in
+    let p : (sameBytes (o .name) name || used name (skim m ys)) ≡ used name (skim count outputs) = (λ i. sameBytes (s .name i) name || used name (skim m (s .rest i))) ∙ q in
     record {
-      room = fits;
-      found = λ h. sym q ∙ ap (λ b. b || used name (skim m (drop size t))) h;
+      found = λ h. sym p ∙ ap (λ b. b || used name (skim m ys)) h;
       other = λ h. record {
-        inside = fits;
-        room = subst S (sym e′) (subst R (there ∙ dn) (all .2));
-        same = ap (λ n. used name (skim n (drop (place + 3 + size) s))) e′ ∙ ap (λ z. used name (skim m z)) (sym dn) ∙ sym (ap (λ b. b || used name (skim m (drop size t))) h) ∙ q;
+        room = subst R (sym e′) (subst Q (sym (s .rest)) (all .2));
+        same = ap (λ n. used name (skim n ys)) e′ ∙ sym (ap (λ b. b || used name (skim m ys)) h) ∙ p;
       };
     }
 
-pub look : (s name : List ℕ) (count : ℕ) (start : List ℕ) (k place : ℕ) → k < count → Looking s name count start k place → Looked s name count start k place
-look s name count start k place h l = look-at s name count start k place (count - (k + 1)) (omega arith) refl l
+pub look : (name outputs : List ℕ) (count k : ℕ) (rest : List ℕ) (o : Output) (ys : List ℕ) → k < count → Looking name outputs count k rest → Split rest o ys → Looked name outputs count k o ys
+look name outputs count k rest o ys h l s = look-at name outputs count k rest o ys (count - (k + 1)) (omega arith) refl l s
 
-pub look-none : (s name : List ℕ) (count place : ℕ) → place ≤ length s → Room count (drop place s) → Looking s name count (drop place s) 0 place
-look-none s name count place h r =
+pub look-none : (name outputs : List ℕ) (count : ℕ) → Room count outputs → Looking name outputs count 0 outputs
+look-none name outputs count r =
     let e : count - 0 ≡ count = omega arith in
-    record { inside = h; room = subst (λ n. Room n (drop place s)) (sym e) r; same = ap (λ n. used name (skim n (drop place s))) e }
+    let P : ℕ → Type 0 = λ n. Room n outputs in
+    record { room = subst P (sym e) r; same = ap (λ n. used name (skim n outputs)) e }
 
-pub look-all : (s name : List ℕ) (count : ℕ) (start : List ℕ) (k place : ℕ) → count ≤ k → Looking s name count start k place → false ≡ used name (skim count start)
-look-all s name count start k place h l =
+not-cut : (n m : ℕ) (rest : List ℕ) → n ≡ suc m → Room n rest → Cut-off rest → ⊥
+not-cut n m rest e r cut = let P : ℕ → Type 0 = λ n. Room n rest in let all : Room (suc m) rest = subst P e r in cut (all .0) (all .1)
+
+pub look-cut : (name outputs : List ℕ) (count k : ℕ) (rest : List ℕ) → k < count → Looking name outputs count k rest → Cut-off rest → ⊥
+look-cut name outputs count k rest h l cut = not-cut (count - k) (count - (k + 1)) rest (omega arith) (l .room) cut
+
+pub look-all : (name outputs : List ℕ) (count k : ℕ) (rest : List ℕ) → count ≤ k → Looking name outputs count k rest → false ≡ used name (skim count outputs)
+look-all name outputs count k rest h l =
     let e : count - k ≡ 0 = omega arith in
-    ap (λ n. used name (skim n (drop place s))) (sym e) ∙ l .same
+    ap (λ n. used name (skim n rest)) (sym e) ∙ l .same
 
-pub part-same : (s name : List ℕ) (p size : ℕ) (r : Bool) → Matches (λ (a b : ℕ) (t : Bool). Decides t (a ≡ b)) (take (p + 3 + size - (p + 3)) (drop (p + 3) s)) name r → sameBytes (take size (drop (p + 3) s)) name ≡ r
-part-same s name p size r m =
-    let e : p + 3 + size - (p + 3) ≡ size = omega arith in
-    ap (λ n. sameBytes (take n (drop (p + 3) s)) name) (sym e) ∙ sym (same-from-decides r _ (matches-decides _ name r m) (sameBytes-decides _ name))
+pub same-name : (other name : List ℕ) (r : Bool) → Matches (λ (a b : ℕ) (t : Bool). Decides t (a ≡ b)) other name r → sameBytes other name ≡ r
+same-name other name r m = sym (same-from-decides r _ (matches-decides other name r m) (sameBytes-decides other name))
+
+-- the search among the bytes of `rest`, which are those of `outputs`
+pub named-before : (name outputs rest : List ℕ) (count : ℕ) (r : Bool) → rest ≡ outputs → Room count outputs → (Room count rest → r ≡ used name (skim count rest)) → used name (skim count outputs) ≡ r
+named-before name outputs rest count r e room f = ap (λ l. used name (skim count l)) (sym e) ∙ sym (f (subst (Room count) (sym e) room))
 
 pub visible-more : (s : List ℕ) (i : ℕ) → visible (drop i s) ≡ visible s → i < length s → between 33 126 (getD s i 0) ≡ true → visible (drop (i + 1) s) ≡ visible s
 visible-more s i e h b = sym (ap (λ t. t && visible (drop (i + 1) s)) b) ∙ sym (at-drop-more visible s i 0 h) ∙ e

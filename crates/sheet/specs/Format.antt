@@ -2,15 +2,16 @@
 use mathlib.Core.Bool.{Bool, true, false, cond, not, _&&_, _||_}
 use mathlib.Core.List.{List, [], _∷_, _++_, map}
 use Prim.Native.Nat.{ℕ, _+_, _-_, _/_, _%_}
-use lib.Dec.{leb, ltb, eqb}
+use lib.Dec.{ltb, eqb}
 use lib.ListN.{length}
 use Rattle.gates.specs.Kinds.{between, is-kind, reads-b, reads-c}
 use Rattle.std.specs.Joined.{joined}
 use Rattle.std.specs.shelf.Text.{sameBytes}
+use Rattle.sheet.specs.Numbers.{number-of}
 use Rattle.sheet.specs.Reading.{Read, got, bad, and-then, Wrong, byte, number, bytes, judged, records}
 use Rattle.sheet.specs.declared.gate.Gate.{Gate}
 use Rattle.sheet.specs.declared.fault.Flaw.{Flaw}
-use Rattle.sheet.specs.declared.fault.Flaw.the-variants.{Kind, Unused, Short, Count, Signal, Name, Extra, Edition}
+use Rattle.sheet.specs.declared.fault.Flaw.the-variants.{Kind, Unused, Count, Signal, Name, Extra, Edition}
 
 pub record Output : Type 0 where
   pub signal : ℕ
@@ -20,17 +21,6 @@ pub record Content : Type 0 where
   pub inputs : ℕ
   pub gates : List Gate
   pub outputs : List Output
-
--- the number by which each flaw is known
-abbrev pub number-of : Flaw → ℕ
-number-of Kind = 3
-number-of Unused = 4
-number-of Short = 5
-number-of Count = 6
-number-of Signal = 7
-number-of Name = 8
-number-of Extra = 9
-number-of Edition = 12
 
 -- what each field has to be
 abbrev pub operand-fits : Bool → ℕ → ℕ → Bool
@@ -72,7 +62,7 @@ operand read own = judged number (operand-fits read own) (operand-flaw read)
 
 abbrev pub gate : ℕ → List ℕ → Read Wrong Gate
 gate own xs =
-    and-then (judged byte (between 1 9) Kind xs) (λ k xs₁.
+    and-then (judged byte is-kind Kind xs) (λ k xs₁.
     and-then (operand true own xs₁) (λ a xs₂.
     and-then (operand (reads-b k) own xs₂) (λ b xs₃.
     and-then (operand (reads-c k) own xs₃) (λ c rest.

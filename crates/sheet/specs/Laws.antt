@@ -6,11 +6,11 @@ use Prim.Native.Nat.{ℕ, _+_, _<_}
 use lib.ListN.{length}
 use Rattle.std.specs.Vec.{Every}
 use Rattle.sheet.specs.Format.{Content, Output, content, encode, decode, operand-fits, name-fits, names}
-use Rattle.gates.specs.Kinds.{between, reads-b, reads-c}
+use Rattle.gates.specs.Kinds.{between, is-kind, reads-b, reads-c}
 use Rattle.sheet.specs.declared.gate.Gate.{Gate}
 
 pub record Gate-fits (own : ℕ) (g : Gate) : Type 0 where
-  pub kind : between 1 9 (g .kind) ≡ true
+  pub kind : is-kind (g .kind) ≡ true
   pub a : operand-fits true own (g .a) ≡ true
   pub b : operand-fits (reads-b (g .kind)) own (g .b) ≡ true
   pub c : operand-fits (reads-c (g .kind)) own (g .c) ≡ true

@@ -5,6 +5,7 @@ use Prim.Native.Nat.{ℕ, _+_, _*_, _≤_}
 use lib.ListN.{length, drop, getD}
 use Rattle.std.specs.Options.{Cases}
 use Rattle.std.specs.declared.option.Option.{Option}
+use Rattle.std.specs.declared.option.Option.the-variants.{Some, None}
 use Rattle.sheet.specs.declared.fault.Flaw.{Flaw}
 use Rattle.sheet.specs.declared.gate.Gate.{Gate}
 use Rattle.sheet.specs.Reading.{wrong}
@@ -22,3 +23,8 @@ pub record Seven (xs : List ℕ) (g : Gate) : Type 0 where
 -- the first fault of a record, and at which of its bytes
 abbrev pub First-flaw : ℕ → Gate → Option (Flaw × ℕ) → Type 0
 First-flaw own g r = Cases r (Gate-fits own g) (λ f. (f .1 ≤ 5) × ((xs : List ℕ) → Seven xs g → gate own xs ≡ wrong (f .0) (length (drop (f .1) xs))))
+
+-- the flaw alone
+abbrev pub flaw-in : Option (Flaw × ℕ) → Option Flaw
+flaw-in None = None
+flaw-in (Some f) = Some (f .0)

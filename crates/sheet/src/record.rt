@@ -1,9 +1,11 @@
+//! Gate records: the seven bytes, named by a slice pattern, and what is wrong with them.
 ghost use mathlib.Core.Path.{_≡_};
 ghost use Prim.Native.Nat.{_<_, _+_, _*_};
 ghost use lib.ListN.{length, drop};
 ghost use Rattle.std.specs.Options.{Cases};
 ghost use Rattle.sheet.specs.Format.{operand-fits, operand-flaw};
-ghost use Rattle.sheet.specs.Record.{Seven, First-flaw};
+ghost use Rattle.sheet.specs.Flaws.{gate-flaw};
+ghost use Rattle.sheet.specs.Record.{Seven, First-flaw, flaw-in};
 use crate::fault::Flaw;
 use crate::gate::Gate;
 use gates::reads_b;
@@ -50,7 +52,8 @@ pub fn record(bytes: &[u8]) -> Option<(Gate, &[u8])>
 
 /// The first fault of a record, and at which of its bytes.
 pub fn first_flaw(gate: Gate, own: u16) -> Option<(Flaw, usize)>
-    ensures { λ r. ⌜ First-flaw own gate r ⌝ }
+    ensures place { λ r. ⌜ First-flaw own gate r ⌝ }
+    ensures flaw { λ r. ⌜ flaw-in r ≡ gate-flaw own gate ⌝ }
 {
     if gate.kind < 1 || gate.kind > 9 {
         return Some((Flaw::Kind, 0));

@@ -1,15 +1,15 @@
+//! An accepted sheet: the caller's bytes, which say what `decode` of them says, and their parts.
 ghost use mathlib.Core.Path.{_≡_};
-ghost use Prim.Native.Nat.{ℕ, _<_};
-ghost use Rattle.std.specs.Results.{Cases};
-ghost use Rattle.sheet.specs.Format.{decode, fault, number-of};
-ghost use Rattle.sheet.specs.Sections.{Accepted, Gate-of, Output-of};
-ghost use Rattle.sheet.specs.Names.{output-of};
-use crate::fault::Fault;
+ghost use lib.ListN.{length};
+ghost use Rattle.sheet.specs.Format.{Content};
+ghost use Rattle.sheet.specs.Sections.{Reads, Says, Ahead, item, output-in};
+use crate::fault::SheetFault;
 use crate::gate::Gate;
 use crate::output::OutputRecord;
+use crate::output::bytes_from;
 use crate::reader::check;
-use crate::record::joined;
 use crate::record::record;
+use crate::records::OutputRecords;
 use crate::shape::Shape;
 
 /// A sheet without fault, and what it has.
@@ -21,57 +21,72 @@ pub struct Sheet<'a> {
 
 impl<'a> Sheet<'a> {
     /// Reads a whole sheet, or gives its first fault.
-    pub fn read(bytes: &'a [u8]) -> Result<Sheet<'a>, Fault>
-        ensures { λ r. ⌜ Cases r
-            (λ s. (now (s .bytes) ≡ now (bytes .entry)) × Accepted (now (bytes .entry)) (s .shape))
-            (λ f. decode (now (bytes .entry)) ≡ fault (number-of (f .flaw)) (f .section) (f .place)) ⌝ }
+    pub fn read(bytes: &'a [u8]) -> Result<Sheet<'a>, SheetFault>
+        ensures { λ r. ⌜ Reads (now (bytes .entry)) r ⌝ }
     {
         let shape = check(bytes)?;
         Ok(Sheet { bytes, shape })
     }
 
+    /// The bytes of the sheet.
+    pub fn bytes(&self) -> &'a [u8]
+        ensures { λ r. ⌜ now r ≡ now (now (self .entry) .bytes) ⌝ }
+    {
+        self.bytes
+    }
+
+    /// How many inputs there are.
+    pub fn inputs(&self) -> u16
+        ensures { λ r. ⌜ ((c : Content) → Says (now (self .entry)) c → r ≡ c .inputs) ⌝ }
+    {
+        self.shape.inputs
+    }
+
     /// How many gates there are.
     pub fn gates(&self) -> u16
-        ensures { λ r. ⌜ r ≡ now (self .entry) .shape .gates ⌝ }
+        ensures { λ r. ⌜ ((c : Content) → Says (now (self .entry)) c → r ≡ length (c .gates)) ⌝ }
     {
         self.shape.gates
     }
 
     /// How many outputs there are.
     pub fn outputs(&self) -> u16
-        ensures { λ r. ⌜ r ≡ now (self .entry) .shape .outputs ⌝ }
+        ensures { λ r. ⌜ ((c : Content) → Says (now (self .entry)) c → r ≡ length (c .outputs)) ⌝ }
     {
         self.shape.outputs
     }
 
-    /// The gate `k`.
-    pub fn gate(&self, k: u16) -> Gate
-        requires sound { ⌜ Accepted (now (now self .bytes)) (now self .shape) ⌝ }
-        requires inside { ⌜ k < now self .shape .gates ⌝ }
-        ensures { λ r. ⌜ Gate-of (now (now (self .entry) .bytes)) k r ⌝ }
+    /// The gate `k`, counted from 0, if there is one.
+    pub fn gate(&self, k: u16) -> Option<Gate>
+        ensures { λ r. ⌜ ((c : Content) → Says (now (self .entry)) c → r ≡ item (c .gates) k) ⌝ }
     {
-        match record(&self.bytes[5 + 7 * k as usize..]) {
-            Some((gate, _)) => gate,
-            None => unreachable(),
+        if k >= self.shape.gates {
+            return None;
+        }
+        match record(bytes_from(self.bytes, 5 + 7 * k as usize)) {
+            Some((gate, _)) => Some(gate),
+            None => None,
         }
     }
 
-    /// The output `k`, with its name as a part of the sheet.
-    pub fn output(&self, k: u16) -> OutputRecord<'a>
-        requires sound { ⌜ Accepted (now (now self .bytes)) (now self .shape) ⌝ }
-        requires inside { ⌜ k < now self .shape .outputs ⌝ }
-        ensures { λ r. ⌜ Output-of (now (now (self .entry) .bytes)) k (output-of r) ⌝ }
+    /// The outputs in order, each with its name as a part of the sheet.
+    pub fn output_records(&self) -> OutputRecords<'a>
+        ensures { λ r. ⌜ ((c : Content) → Says (now (self .entry)) c → Ahead r (c .outputs)) ⌝ }
     {
-        let bytes = self.bytes;
-        let mut place = 7 + 7 * self.shape.gates as usize;
+        OutputRecords::new(
+            bytes_from(self.bytes, 7 + 7 * self.shape.gates as usize),
+            self.shape.outputs,
+        )
+    }
+
+    /// The output `k`, counted from 0, if there is one. For all of them in turn take `output_records`.
+    pub fn output(&self, k: u16) -> Option<OutputRecord<'a>>
+        ensures { λ r. ⌜ ((c : Content) → Says (now (self .entry)) c → output-in r ≡ item (c .outputs) k) ⌝ }
+    {
+        let mut records = self.output_records();
         for i in 0..k {
-            place = place + 3 + bytes[place + 2] as usize;
+            let _ = records.next_output();
         }
-        let size = bytes[place + 2] as usize;
-        let signal = joined(bytes[place], bytes[place + 1]);
-        OutputRecord {
-            signal,
-            name: &bytes[place + 3..place + 3 + size],
-        }
+        records.next_output()
     }
 }

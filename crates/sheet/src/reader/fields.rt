@@ -1,3 +1,4 @@
+//! The fields of a sheet: a byte, a number, some bytes, and the tests that they have to pass.
 ghost use mathlib.Core.Path.{_≡_};
 ghost use Prim.Native.Nat.{_+_, _*_, _≤_};
 ghost use Rattle.sheet.specs.Reading.{byte as a-byte, number as a-number, bytes as some-bytes, judged};

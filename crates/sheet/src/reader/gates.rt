@@ -1,3 +1,4 @@
+//! The section of gates: whole records by a slice pattern, what is left of a short one field by field.
 ghost use mathlib.Core.Path.{_≡_};
 ghost use Prim.Native.Nat.{_+_, _*_, _≤_};
 ghost use Rattle.sheet.specs.Format.{gate as a-gate, gate-section};

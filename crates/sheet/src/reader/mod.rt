@@ -1,3 +1,4 @@
+//! The reader: a place in the bytes of a sheet, which copies nothing.
 ghost use Prim.Native.Nat.{_≤_};
 ghost use denote.Ref.{now};
 ghost use lib.ListN.{length};
@@ -14,7 +15,7 @@ mod fields;
 mod gates;
 mod outputs;
 mod sections;
-mod starts;
 
+pub use outputs::has_name;
 pub use outputs::visible;
 pub use sections::check;

@@ -1,3 +1,4 @@
+//! The section of outputs, read field by field, each name against the earlier ones.
 ghost use mathlib.Core.Path.{_≡_};
 ghost use Prim.Native.Nat.{_≤_};
 ghost use Rattle.sheet.specs.Reading.{bytes as some-bytes, judged};
@@ -8,6 +9,8 @@ ghost use Rattle.sheet.specs.declared.fault.Flaw.the-variants.{Name as name-fl
 use crate::fault::FieldFault;
 use crate::fault::Flaw;
 use crate::output::OutputRecord;
+use crate::output::bytes_from;
+use crate::output::output_record;
 use crate::reader::Reader;
 
 /// Whether every byte of a name is visible.
@@ -22,25 +25,24 @@ pub fn visible(name: &[u8]) -> bool
     true
 }
 
-impl<'a> Reader<'a> {
-    /// Whether one of the next `count` outputs has this name.
-    pub fn has_name(&self, count: u16, name: &[u8]) -> bool
-        requires { ⌜ Room count (left (now self)) ⌝ }
-        ensures { λ r. ⌜ r ≡ used (now (name .entry)) (skim count (left (now (self .entry)))) ⌝ }
-    {
-        let sheet = self.sheet;
-        let mut place = self.place;
-        for k in 0..count {
-            let size = sheet[place + 2] as usize;
-            let other = &sheet[place + 3..place + 3 + size];
-            if other == name {
-                return true;
-            }
-            place = place + 3 + size;
+/// Whether one of the first `count` outputs in some bytes has this name.
+pub fn has_name(outputs: &[u8], count: u16, name: &[u8]) -> bool
+    ensures { λ r. ⌜ (Room count (now (outputs .entry)) → r ≡ used (now (name .entry)) (skim count (now (outputs .entry)))) ⌝ }
+{
+    let mut rest = outputs;
+    for k in 0..count {
+        let Some((other, after)) = output_record(rest) else {
+            return false;
+        };
+        if other.name == name {
+            return true;
         }
-        false
+        rest = after;
     }
+    false
+}
 
+impl<'a> Reader<'a> {
     /// A name of so many bytes, which none of the `count` outputs from `first` on has.
     pub fn name(&mut self, size: u8, first: &Reader<'a>, count: u16) -> Result<&'a [u8], FieldFault>
         requires { ⌜ Room count (left (now first)) ⌝ }
@@ -48,7 +50,7 @@ impl<'a> Reader<'a> {
     {
         let place = self.place;
         let name = self.part(size as usize)?;
-        if visible(name) && !first.has_name(count, name) {
+        if visible(name) && !has_name(bytes_from(first.sheet, first.place), count, name) {
             Ok(name)
         } else {
             Err(FieldFault {

@@ -1,18 +1,19 @@
+//! The sections in turn, each of whose faults gains its section.
 ghost use mathlib.Core.Path.{_≡_};
 ghost use Rattle.sheet.specs.Sections.{located, Checked};
-use crate::fault::Fault;
 use crate::fault::FieldFault;
 use crate::fault::Flaw;
+use crate::fault::SheetFault;
 use crate::reader::Reader;
 use crate::shape::Shape;
 
 /// The answer of a section's field, whose fault gains the section.
-pub fn placed<T>(result: Result<T, FieldFault>, section: u8) -> Result<T, Fault>
+pub fn placed<T>(result: Result<T, FieldFault>, section: u8) -> Result<T, SheetFault>
     ensures { λ r. ⌜ r ≡ located section result ⌝ }
 {
     match result {
         Ok(value) => Ok(value),
-        Err(e) => Err(Fault {
+        Err(e) => Err(SheetFault {
             flaw: e.flaw,
             section,
             place: e.place,
@@ -21,7 +22,7 @@ pub fn placed<T>(result: Result<T, FieldFault>, section: u8) -> Result<T, Fault>
 }
 
 /// Reads a whole sheet: what it has, or its first fault.
-pub fn check(sheet: &[u8]) -> Result<Shape, Fault>
+pub fn check(sheet: &[u8]) -> Result<Shape, SheetFault>
     ensures { λ r. ⌜ Checked (now (sheet .entry)) r ⌝ }
 {
     let mut reader = Reader { sheet, place: 0 };
@@ -30,7 +31,7 @@ pub fn check(sheet: &[u8]) -> Result<Shape, Fault>
     let gates = placed(reader.gates(inputs), 2)?;
     let outputs = placed(reader.outputs(inputs + 2 + gates), 3)?;
     if reader.place < sheet.len() {
-        return Err(Fault {
+        return Err(SheetFault {
             flaw: Flaw::Extra,
             section: 0,
             place: reader.place,

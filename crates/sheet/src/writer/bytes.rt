@@ -1,8 +1,9 @@
+//! The bytes of numbers and gate records, and how bytes are put into a place.
 ghost use mathlib.Core.Path.{_≡_};
-ghost use mathlib.Core.List.{_++_};
 ghost use Prim.Native.Nat.{_+_, _≤_};
-ghost use lib.ListN.{length, take, drop};
+ghost use lib.ListN.{length};
 ghost use Rattle.sheet.specs.Format.{number-bytes, gate-bytes};
+ghost use Rattle.sheet.specs.Written.{put as written};
 use crate::gate::Gate;
 
 /// The two bytes of a number.
@@ -30,7 +31,7 @@ pub fn gate_bytes(g: Gate) -> [u8; 7]
 /// Writes some bytes at a place.
 pub fn put(place: &mut [u8], at: usize, bytes: &[u8])
     requires { ⌜ at + length (now bytes) ≤ length (now place) ⌝ }
-    ensures { λ _. ⌜ now (place .exit) ≡ take at (now (place .entry)) ++ (now (bytes .entry) ++ drop (at + length (now (bytes .entry))) (now (place .entry))) ⌝ }
+    ensures { λ _. ⌜ now (place .exit) ≡ written (now (place .entry)) at (now (bytes .entry)) ⌝ }
 {
     place[at..at + bytes.len()].copy_from_slice(bytes);
 }

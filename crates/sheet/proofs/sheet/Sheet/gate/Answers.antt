@@ -1,23 +1,15 @@
-use mathlib.Core.Path.{ap}
-use Prim.Native.Nat.{_+_}
-use lib.ListN.{length}
+use mathlib.Core.Path.{ap, subst}
 use native.Mathlib.Omega.{arith}
-use Rattle.sheet.specs.Reading.{bytes}
-use Rattle.sheet.proofs.Parts.{room, gate-of}
-use Rattle.std.proofs.shelf.Lists.{take-rest, length-drop}
-use Prim.Native.Nat.{_*_}
+use lib.ListN.{length}
+use Rattle.sheet.specs.Record.{Seven}
+use Rattle.sheet.proofs.Parts.{no-gate, gate-item, gate-there}
 use Rattle.sheet.proofs.sheet.Sheet.gate.Needs as need
 
-pub part-record-count : need.part-record-count
-part-record-count c = let r = room (c .args .self .now .bytes .now) (c .args .self .now .shape) (c .args .k) (c .pre .sound) (c .pre .inside) in omega arith
+pub returns-then-k-self : need.returns-then-k-self
+returns-then-k-self c = λ d s. no-gate (c .args .self .now .bytes .now) (c .args .self .now .shape) d (c .args .k) (c .if-k-self .taken) s
 
-pub part-record-start : need.part-record-start
-part-record-start c = let r = room (c .args .self .now .bytes .now) (c .args .self .now .shape) (c .args .k) (c .pre .sound) (c .pre .inside) in omega arith
+pub returns-in-Some : need.returns-in-Some
+returns-in-Some c = λ d s. gate-item (c .args .self .now .bytes .now) (c .args .self .now .shape) d (c .args .k) _ (c .if-k-self .left) (subst (λ l. Seven l (c .in-Some .gate)) (c .bytes-from .ensures) (c .in-Some .ensures tt .0)) s
 
-pub unreachable-requires : need.unreachable-requires
-unreachable-requires c κs =
-    let r = room (c .args .self .now .bytes .now) (c .args .self .now .shape) (c .args .k) (c .pre .sound) (c .pre .inside) in
-    omega (arith, r, c .in-None .ensures tt, ap length (take-rest (c .args .self .now .bytes .now) (5 + 7 * c .args .k)), length-drop (5 + 7 * c .args .k) (c .args .self .now .bytes .now))
-
-pub returns : need.returns
-returns c = gate-of (c .args .self .now .bytes .now) (c .args .self .now .shape) (c .args .k) _ (c .pre .sound) (c .pre .inside) (c .in-Some .ensures tt .0)
+pub returns-in-None : need.returns-in-None
+returns-in-None c = λ d s. absurd (gate-there (c .args .self .now .bytes .now) (c .args .self .now .shape) d (c .args .k) (c .if-k-self .left) (omega (arith, c .in-None .ensures tt, ap length (c .bytes-from .ensures))) s)

@@ -1,38 +1,48 @@
-use mathlib.Core.Path.{refl, ap, _∙_}
-use Prim.Native.Nat.{_+_}
-use lib.ListN.{length}
+use mathlib.Core.Path.{_≡_, refl, _∙_}
+use Prim.Native.Nat.{ℕ, _+_}
 use native.Mathlib.Omega.{arith}
-use lib.ListN.{take, drop}
-use mathlib.Core.List.{_++_}
-use mathlib.Core.Logic.{inl, inr}
-use Prim.Native.Nat.{_*_}
-use Rattle.std.specs.declared.option.Option.the-variants.{None}
-use Rattle.sheet.specs.Format.{names}
-use Rattle.sheet.specs.Written.{wrong-output, full-output, named}
-use Rattle.sheet.proofs.Writing.{add-output, no-flaw, flaw-as, room-at, held}
+use lib.ListN.{length}
+use mathlib.Core.List.{List}
+use Rattle.std.specs.declared.option.Option.the-variants.{Some, None}
+use Rattle.sheet.specs.Format.{Content, Output, names, output-bytes, number-bytes}
+use Rattle.sheet.specs.Written.{put, gates-end, named, Holds-outputs}
+use Rattle.sheet.specs.Flaws.{output-flaw}
+use Rattle.sheet.proofs.Writing.{add-output, no-flaw, flaw-as}
+use Rattle.sheet.proofs.Refusing.{many-outputs, wrong-output, full-output, taken-output}
 use Rattle.sheet.proofs.writer.Outputs.output.Needs as need
 
-pub at-requires : need.at-requires
-at-requires c κs = held (c .args .place .now) (c .args .self) (c .pre .says) (c .pre .holds) .inside
-
-pub sub-place : need.sub-place
-sub-place c = held (c .args .place .now) (c .args .self) (c .pre .says) (c .pre .holds) .ends
-
-pub flaw-of-requires : need.flaw-of-requires
-flaw-of-requires c κs = room-at (c .args .place .now) (c .args .self) (c .pre .says) (c .at .result) (c .at .ensures .0) (c .at .ensures .1) (c .pre .holds)
-
 pub returns-then-self-eq256 : need.returns-then-self-eq256
-returns-then-self-eq256 c = (refl, refl, λ d h. inl (c .if-self-eq256 .taken, refl))
+returns-then-self-eq256 c = record { state = (refl, refl); refusal = λ b d h. many-outputs (length (c .args .place .now)) (c .args .self) (names (d .outputs)) (named (c .args .signal) (c .args .name .now)) (c .if-self-eq256 .taken) }
 
 pub returns-in-Some : need.returns-in-Some
-returns-in-Some c = (refl, refl, λ d h. inr (omega arith, wrong-output _ (flaw-as (c .args .place .now) (c .args .self) d (c .at .result) (c .args .self .inputs + 2 + c .args .self .gates) (named (c .args .signal) (c .args .name .now)) _ (c .at .ensures .0) (c .at .ensures .1) h (c .in-Some .ensures tt))))
+returns-in-Some c = record {
+  state = (refl, refl);
+  refusal = λ b d h. wrong-output (length (c .args .place .now)) (c .args .self) (names (d .outputs)) (named (c .args .signal) (c .args .name .now)) (c .in-Some .flaw) (omega arith)
+      (flaw-as b (c .args .place .now) (c .bytes-from .result .now) (c .args .self) d (c .args .self .inputs + 2 + c .args .self .gates) (named (c .args .signal) (c .args .name .now)) (Some (c .in-Some .flaw)) (c .bytes-from .ensures) (c .in-Some .ensures tt .flaw) h);
+}
 
-pub returns-then-place-self : need.returns-then-place-self
-returns-then-place-self c = (refl, refl, λ d h. inr (omega arith, full-output (flaw-as (c .args .place .now) (c .args .self) d (c .at .result) (c .args .self .inputs + 2 + c .args .self .gates) (named (c .args .signal) (c .args .name .now)) None (c .at .ensures .0) (c .at .ensures .1) h (c .in-rest .ensures tt)) (omega (arith, c .if-place-self .taken))))
+pub returns-then-place-end : need.returns-then-place-end
+returns-then-place-end c = record {
+  state = (refl, refl);
+  refusal = λ b d h. full-output (length (c .args .place .now)) (c .args .self) (names (d .outputs)) (named (c .args .signal) (c .args .name .now)) (omega arith)
+      (flaw-as b (c .args .place .now) (c .bytes-from .result .now) (c .args .self) d (c .args .self .inputs + 2 + c .args .self .gates) (named (c .args .signal) (c .args .name .now)) None (c .bytes-from .ensures) (c .in-rest .ensures tt .flaw) h) (omega arith);
+}
 
 pub returns : need.returns
-returns c = λ d h. add-output (c .args .place .now) (c .put-output .last .place) (c .put .last .place) (c .args .self) _ (named (c .args .signal) (c .args .name .now)) d refl refl refl refl
-    (no-flaw _ (names (d .outputs)) (named (c .args .signal) (c .args .name .now)) (flaw-as (c .args .place .now) (c .args .self) d (c .at .result) (c .args .self .inputs + 2 + c .args .self .gates) (named (c .args .signal) (c .args .name .now)) None (c .at .ensures .0) (c .at .ensures .1) h (c .in-rest .ensures tt)))
-    (c .put-output .ensures)
-    (c .put .ensures ∙ ap (λ b. take (5 + 7 * c .args .self .gates) (c .put-output .last .place) ++ (b ++ drop (5 + 7 * c .args .self .gates + length b) (c .put-output .last .place))) (c .number-bytes .ensures))
-    (omega arith) h
+returns c =
+    let o : Output = named (c .args .signal) (c .args .name .now) in
+    let at : ℕ = gates-end (c .args .self .gates) in
+    let wrote : c .put .last .place ≡ put (put (c .args .place .now) (c .args .self .end) (output-bytes o)) at (number-bytes (c .args .self .outputs + 1)) =
+    c .put .ensures ∙ (λ i. put (c .put-output .ensures i) at (c .number-bytes .ensures i)) in
+    let flaw : (b : List ℕ) (d : Content) → Holds-outputs b (c .args .place .now) (c .args .self) d → output-flaw (c .args .self .inputs + 2 + c .args .self .gates) (names (d .outputs)) o ≡ None = λ b d h. flaw-as b (c .args .place .now) (c .bytes-from .result .now) (c .args .self) d (c .args .self .inputs + 2 + c .args .self .gates) o None (c .bytes-from .ensures) (c .in-rest .ensures tt .flaw) h in
+    record {
+      state = record {
+        inputs = refl;
+        gates = refl;
+        outputs = refl;
+        end = omega arith;
+        writes = wrote;
+        holds = λ b d h. add-output (c .args .place .now) (c .put .last .place) (c .args .self) _ o refl refl refl (omega arith) wrote (omega arith) b d (no-flaw _ (names (d .outputs)) o (flaw b d h)) h;
+      };
+      refusal = λ b d h. taken-output (length (c .args .place .now)) (c .args .self) (names (d .outputs)) o (omega arith) (flaw b d h) (omega arith);
+    }

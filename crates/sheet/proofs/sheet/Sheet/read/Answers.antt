@@ -1,0 +1,5 @@
+use mathlib.Core.Path.{refl}
+use Rattle.sheet.proofs.sheet.Sheet.read.Needs as need
+
+pub returns : need.returns
+returns c = (refl, c .in-Continue-shape .ensures tt)

@@ -1,0 +1,5 @@
+use Rattle.sheet.proofs.Writing.{reads-back}
+use Rattle.sheet.proofs.writer.Closed.read_back.Needs as need
+
+pub returns : need.returns
+returns c = reads-back (c .args .place .now) (c .bytes .result .now) (c .args .self) (c .read .result) (c .bytes .ensures) (c .read .ensures)
