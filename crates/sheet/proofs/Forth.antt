@@ -1,3 +1,4 @@
+-- What is read was written: bytes that decode are `encode` of their content, which is lawful.
 use mathlib.Core.Path.{_≡_, refl, sym, ap, subst, _∙_}
 use mathlib.Core.Bool.{Bool, true}
 use mathlib.Core.List.{List, [], _∷_, _++_, append-assoc, append-nil}

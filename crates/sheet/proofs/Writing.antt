@@ -113,7 +113,7 @@ encode-from c ys = simp append-assoc
 front-long : (i : ℕ) (gs : List Gate) → length (front i gs) ≡ 5 + 7 * length gs
 front-long i gs = omega (arith, gates-long gs)
 
-encode-long : (c : Content) → length (encode c) ≡ 7 + 7 * length (c .gates) + length (joined output-bytes (c .outputs))
+pub encode-long : (c : Content) → length (encode c) ≡ 7 + 7 * length (c .gates) + length (joined output-bytes (c .outputs))
 encode-long c = omega (arith, gates-long (c .gates), length-append (joined gate-bytes (c .gates)) (number-bytes (length (c .outputs)) ++ joined output-bytes (c .outputs)))
 
 pub start-outputs : (place after : List ℕ) (w : Gates) (v : Outputs) (o : Output) → v .inputs ≡ w .inputs → v .gates ≡ w .gates → v .outputs ≡ 1 → v .end ≡ outputs-start (w .gates) + length (output-bytes o)

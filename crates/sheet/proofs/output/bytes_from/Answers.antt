@@ -1,3 +1,4 @@
+-- What is left to show of `output::bytes_from`, beyond what the search finds.
 use mathlib.Core.Path.{sym, _∙_}
 use native.Mathlib.Omega.{arith}
 use lib.ListN.{length}

@@ -1,3 +1,4 @@
+-- What is left to show of `record::first_flaw`, beyond what the search finds.
 use mathlib.Core.Path.{sym}
 use native.Mathlib.Omega.{arith}
 use Rattle.std.proofs.shelf.Ways.{tells}

@@ -1,3 +1,4 @@
+-- What is left to show of `record::record`, beyond what the search finds.
 use mathlib.Core.Path.{refl}
 use borrow.Author.Needs.{needs}
 use Rattle.sheet.specs.Reading.{bytes}

@@ -1,3 +1,4 @@
+-- What is left to show of `reader::Reader::byte`, beyond what the search finds.
 use mathlib.Core.Path.{refl}
 use Prim.Native.Nat.{_≤_}
 use lib.ListN.{length}

@@ -1,3 +1,4 @@
+-- What is left to show of `reader::Reader::gate`, beyond what the search finds.
 use mathlib.Core.Path.{refl}
 use Rattle.sheet.proofs.Whole.{refused-at, accepted-at}
 use Rattle.sheet.proofs.reader.Reader.gate.Needs as need

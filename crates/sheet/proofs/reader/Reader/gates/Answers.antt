@@ -1,3 +1,4 @@
+-- What is left to show of `reader::Reader::gates`, beyond what the search finds.
 use mathlib.Core.Path.{_≡_, sym, subst}
 use Prim.Native.Nat.{ℕ, _+_}
 use native.Mathlib.Omega.{arith}

@@ -1,3 +1,4 @@
+-- What the loop of `reader::Reader::gates` keeps from turn to turn.
 use Rattle.sheet.specs.Format.{next-gate}
 use Rattle.sheet.proofs.Loops.{So-far}
 use Rattle.sheet.proofs.reader.Reader.gates.Given as given

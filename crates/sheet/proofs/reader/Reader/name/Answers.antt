@@ -1,3 +1,4 @@
+-- What is left to show of `reader::Reader::name`, beyond what the search finds.
 use mathlib.Core.Path.{refl, sym, _∙_}
 use mathlib.Core.Bool.{not}
 use Prim.Native.Nat.{ℕ}

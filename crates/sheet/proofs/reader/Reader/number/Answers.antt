@@ -1,3 +1,4 @@
+-- What is left to show of `reader::Reader::number`, beyond what the search finds.
 use mathlib.Core.Path.{refl, ap, _∙_}
 use Prim.Native.Nat.{_+_, _<_}
 use lib.ListN.{length, drop}

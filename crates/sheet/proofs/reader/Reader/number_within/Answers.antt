@@ -1,3 +1,4 @@
+-- What is left to show of `reader::Reader::number_within`, beyond what the search finds.
 use mathlib.Core.Path.{refl}
 use native.Mathlib.Omega.{arith}
 use Rattle.std.proofs.shelf.Ways.{tells}

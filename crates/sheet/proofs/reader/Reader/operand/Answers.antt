@@ -1,3 +1,4 @@
+-- What is left to show of `reader::Reader::operand`, beyond what the search finds.
 use mathlib.Core.Path.{sym}
 use Rattle.sheet.specs.Reading.{number}
 use Rattle.sheet.specs.Format.{operand-fits, operand-flaw}

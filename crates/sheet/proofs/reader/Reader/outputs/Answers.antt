@@ -1,3 +1,4 @@
+-- What is left to show of `reader::Reader::outputs`, beyond what the search finds.
 use mathlib.Core.Path.{_≡_, sym, subst}
 use Prim.Native.Nat.{ℕ}
 use native.Mathlib.Omega.{arith}

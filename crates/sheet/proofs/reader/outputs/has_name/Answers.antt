@@ -1,3 +1,4 @@
+-- What is left to show of `reader::outputs::has_name`, beyond what the search finds.
 use mathlib.Core.Path.{sym, _∙_}
 use Rattle.sheet.specs.Names.{output-of}
 use Rattle.sheet.proofs.Skims.{look, look-none, look-cut, look-all, same-name}

@@ -1,3 +1,4 @@
+-- What the loop of `reader::outputs::has_name` keeps from turn to turn.
 use Rattle.sheet.specs.Names.{Room}
 use Rattle.sheet.proofs.Skims.{Looking}
 use Rattle.sheet.proofs.reader.outputs.has_name.Given as given

@@ -1,3 +1,4 @@
+-- What is left to show of `reader::outputs::visible`, beyond what the search finds.
 use native.Mathlib.Omega.{arith}
 use Rattle.std.proofs.shelf.Ways.{tells}
 use Rattle.sheet.proofs.Skims.{visible-more, visible-bad, visible-all}

@@ -1,3 +1,4 @@
+-- What is left to show of `reader::sections::check`, beyond what the search finds.
 use mathlib.Core.Path.{refl}
 use Prim.Native.Nat.{_+_, _≤_}
 use native.Mathlib.Omega.{arith}

@@ -1,3 +1,4 @@
+-- What is left to show of `records::OutputRecords::next_output`, beyond what the search finds.
 use mathlib.Core.Path.{refl}
 use Rattle.sheet.specs.Names.{output-of}
 use Rattle.sheet.proofs.Parts.{ahead-none, ahead-cut, ahead-more}

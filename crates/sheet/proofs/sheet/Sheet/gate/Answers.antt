@@ -1,3 +1,4 @@
+-- What is left to show of `sheet::Sheet::gate`, beyond what the search finds.
 use mathlib.Core.Path.{ap, subst}
 use native.Mathlib.Omega.{arith}
 use lib.ListN.{length}

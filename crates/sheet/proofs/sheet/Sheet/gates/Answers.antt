@@ -1,3 +1,4 @@
+-- What is left to show of `sheet::Sheet::gates`, beyond what the search finds.
 use mathlib.Core.Path.{ap}
 use Rattle.sheet.proofs.sheet.Sheet.gates.Needs as need
 

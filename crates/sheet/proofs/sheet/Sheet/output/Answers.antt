@@ -1,3 +1,4 @@
+-- What is left to show of `sheet::Sheet::output`, beyond what the search finds.
 use mathlib.Core.Path.{_≡_, ap, _∙_}
 use native.Mathlib.Omega.{arith}
 use lib.ListN.{drop}

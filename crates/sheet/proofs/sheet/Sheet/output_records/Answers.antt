@@ -1,3 +1,4 @@
+-- What is left to show of `sheet::Sheet::output_records`, beyond what the search finds.
 use mathlib.Core.Path.{_∙_}
 use Rattle.sheet.proofs.Parts.{all-ahead}
 use Rattle.sheet.proofs.sheet.Sheet.output_records.Needs as need

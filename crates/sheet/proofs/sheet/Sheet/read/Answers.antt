@@ -1,3 +1,4 @@
+-- What is left to show of `sheet::Sheet::read`, beyond what the search finds.
 use mathlib.Core.Path.{refl}
 use Rattle.sheet.proofs.sheet.Sheet.read.Needs as need
 

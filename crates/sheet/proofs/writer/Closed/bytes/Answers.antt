@@ -1,3 +1,4 @@
+-- What is left to show of `writer::Closed::bytes`, beyond what the search finds.
 use mathlib.Core.Path.{_≡_, sym, ap}
 use Prim.Native.Nat.{_-_}
 use lib.ListN.{take}

@@ -1,3 +1,4 @@
+-- What is left to show of `writer::Closed::read_back`, beyond what the search finds.
 use Rattle.sheet.proofs.Writing.{reads-back}
 use Rattle.sheet.proofs.writer.Closed.read_back.Needs as need
 

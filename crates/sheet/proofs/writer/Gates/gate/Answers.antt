@@ -1,3 +1,4 @@
+-- What is left to show of `writer::Gates::gate`, beyond what the search finds.
 use mathlib.Core.Path.{_≡_, refl, ap, _∙_}
 use Prim.Native.Nat.{ℕ, _+_}
 use native.Mathlib.Omega.{arith}

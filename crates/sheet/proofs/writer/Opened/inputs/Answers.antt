@@ -1,3 +1,4 @@
+-- What is left to show of `writer::Opened::inputs`, beyond what the search finds.
 use mathlib.Core.Path.{_≡_, refl, _∙_}
 use mathlib.Core.Bool.{true}
 use lib.ListN.{length}

@@ -1,3 +1,4 @@
+-- What is left to show of `writer::Outputs::output`, beyond what the search finds.
 use mathlib.Core.Path.{_≡_, refl, _∙_}
 use Prim.Native.Nat.{ℕ, _+_}
 use native.Mathlib.Omega.{arith}

@@ -1,3 +1,4 @@
+-- What is left to show of `writer::bytes::put`, beyond what the search finds.
 use Rattle.sheet.specs.Reading.{bytes}
 use Rattle.sheet.proofs.Writing.{put-is}
 use Rattle.sheet.proofs.writer.bytes.put.Needs as need

@@ -1,3 +1,4 @@
+-- What is left to show of `writer::names::put_output`, beyond what the search finds.
 use mathlib.Core.Path.{ap, _∙_}
 use Rattle.sheet.specs.Written.{put}
 use Rattle.sheet.proofs.Writing.{three}
