@@ -10,6 +10,8 @@ use crate::stage;
 use crate::stage::Outcome;
 use crate::stage::Stage;
 use sheet::Gate;
+use sheet::Sheet;
+use sheet::copy;
 use sheet::writer::Closed;
 use sheet::writer::Opened;
 use std::error::AnyError;
@@ -95,8 +97,9 @@ impl Desk {
         tell(rt, outcome)
     }
 
-    // Writes a sheet of these measures, keeps its bytes and reads it back.
+    // Writes a sheet of these measures by another writer, keeps its bytes and reads it back.
     fn full(&mut self, rt: &LibcRuntime, measures: Measures) -> Result<(), AnyError> {
+        self.stage = Stage::Opened(Opened);
         let mut name = vec![in rt.alloc(); b'-'; measures.length as usize]?;
         match fill(self.place.as_mut_slice(), name.as_mut_slice(), measures) {
             Ok(sheet) => {
@@ -107,6 +110,12 @@ impl Desk {
             }
             Err(refusal) => listing::refusal(rt, refusal),
         }
+    }
+
+    // Writes the sheet anew through another writer.
+    fn copy(&mut self, rt: &LibcRuntime) -> Result<(), AnyError> {
+        self.stage = Stage::Opened(Opened);
+        copied(rt, self.sheet.as_slice(), self.place.as_mut_slice())
     }
 
     fn cuts(&self, rt: &LibcRuntime) -> Result<(), AnyError> {
@@ -158,6 +167,7 @@ impl Desk {
                 },
             ),
             Line::Read(digits) => read(rt, digits),
+            Line::Copy => self.copy(rt),
             Line::Cuts => self.cuts(rt),
             Line::Set(place, value) => self.set(rt, place as usize, value),
             Line::Extra(value) => self.extra(rt, value),
@@ -167,6 +177,21 @@ impl Desk {
                 Ok(())
             }
         }
+    }
+}
+
+fn copied(rt: &LibcRuntime, bytes: &[u8], place: &mut [u8]) -> Result<(), AnyError> {
+    let Ok(accepted) = Sheet::read(bytes) else {
+        println!(rt, "no sheet")?;
+        return Ok(());
+    };
+    match copy(&accepted, place) {
+        Ok(closed) => {
+            let same = closed.bytes(place) == bytes;
+            println!(rt, "copied, the same bytes: {same}")?;
+            Ok(())
+        }
+        Err(refusal) => listing::refusal(rt, refusal),
     }
 }
 

@@ -18,6 +18,8 @@ pub enum Line<'a> {
     Full(u16, u16, u16, u16),
     /// `read HEX`: lists what the bytes say, or their fault.
     Read(&'a str),
+    /// `copy`: the last sheet, written anew through the writer.
+    Copy,
     /// `cuts`: the closed sheet, cut before each of its bytes.
     Cuts,
     /// `set PLACE BYTE`: the closed sheet with another byte there.
@@ -42,7 +44,12 @@ fn inputs<'a>(count: &'a str) -> Option<Line<'a>> {
     Some(Line::Inputs(number(Some(count))?))
 }
 
-fn gate<'a>(kind: &'a str, a: Option<&'a str>, b: Option<&'a str>, c: Option<&'a str>) -> Option<Line<'a>> {
+fn gate<'a>(
+    kind: &'a str,
+    a: Option<&'a str>,
+    b: Option<&'a str>,
+    c: Option<&'a str>,
+) -> Option<Line<'a>> {
     let kind = kind.parse::<u8>().ok()?;
     let a = number(a)?;
     let b = number(b)?;
@@ -82,6 +89,7 @@ fn extra<'a>(value: &'a str) -> Option<Line<'a>> {
 fn single<'a>(first: &'a str) -> Line<'a> {
     match first {
         "close" => Line::Close,
+        "copy" => Line::Copy,
         "cuts" => Line::Cuts,
         _ => Line::Unknown,
     }
