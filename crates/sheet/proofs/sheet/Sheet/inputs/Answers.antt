@@ -1,0 +1,6 @@
+-- What is left to show of `sheet::Sheet::inputs`, beyond what the search finds.
+use mathlib.Core.Path.{ap}
+use Rattle.sheet.proofs.sheet.Sheet.inputs.Needs as need
+
+pub returns : need.returns
+returns c = λ d s. ap (λ t. t .inputs) (s .shape)
