@@ -3,7 +3,7 @@ use mathlib.Core.Path.{_≡_}
 use mathlib.Core.Bool.{true}
 use mathlib.Core.List.{List, [], _∷_, _++_}
 use Prim.Native.Nat.{ℕ, _+_, _*_}
-use lib.ListN.{length, take, drop}
+use lib.ListN.{length, drop}
 use Rattle.gates.specs.Kinds.{between}
 use Rattle.std.specs.Joined.{joined}
 use Rattle.std.specs.declared.result.Result.{Result}
@@ -15,10 +15,7 @@ use Rattle.sheet.specs.declared.writer.Gates.{Gates}
 use Rattle.sheet.specs.declared.writer.Outputs.{Outputs}
 use Rattle.sheet.specs.Format.{number-bytes, gate-bytes, Output, Content, output-bytes, encode}
 use Rattle.sheet.specs.Laws.{Next-gate-fits, Each-fits, Lawful}
-
--- the place, with `bs` written over its bytes from `at` on
-abbrev pub put : List ℕ → ℕ → List ℕ → List ℕ
-put place at bs = take at place ++ (bs ++ drop (at + length bs) place)
+pub use Rattle.sheet.specs.Places.{put}
 
 -- where the gate records end, and where the output records start
 abbrev pub gates-end : ℕ → ℕ

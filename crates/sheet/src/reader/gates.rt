@@ -1,8 +1,7 @@
-//! The section of gates: whole records by a slice pattern, what is left of a short one field by field.
+//! Gate records: whole ones by a slice pattern, what is left of a short one field by field.
 ghost use mathlib.Core.Path.{_≡_};
-ghost use Prim.Native.Nat.{_+_, _*_, _≤_};
-ghost use Rattle.sheet.specs.Format.{gate as a-gate, gate-section};
-ghost use Rattle.sheet.specs.View.{Step, counted};
+ghost use Rattle.sheet.specs.Format.{gate as a-gate};
+ghost use Rattle.sheet.specs.View.{Step};
 use crate::fault::FieldFault;
 use crate::fault::Flaw;
 use crate::gate::Gate;
@@ -40,17 +39,5 @@ impl<'a> Reader<'a> {
         }
         self.place = sheet.len() - rest.len();
         Ok(gate)
-    }
-
-    /// The section of gates, where there are so many inputs: how many gates.
-    pub fn gates(&mut self, inputs: u16) -> Result<u16, FieldFault>
-        requires { ⌜ inputs ≤ 64 ⌝ }
-        ensures { λ r. ⌜ Step (λ xs. counted (gate-section inputs xs)) (now (self .entry)) r (now (self .exit)) ⌝ }
-    {
-        let count = self.number_within(0, 600, Flaw::Count)?;
-        for k in 0..count {
-            let _ = self.gate(inputs + 2 + k)?;
-        }
-        Ok(count)
     }
 }

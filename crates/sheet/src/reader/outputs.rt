@@ -44,7 +44,7 @@ pub fn has_name(outputs: &[u8], count: u16, name: &[u8]) -> bool
 
 impl<'a> Reader<'a> {
     /// A name of so many bytes, which none of the `count` outputs from `first` on has.
-    pub fn name(&mut self, size: u8, first: &Reader<'a>, count: u16) -> Result<&'a [u8], FieldFault>
+    fn name(&mut self, size: u8, first: &Reader<'a>, count: u16) -> Result<&'a [u8], FieldFault>
         requires { ⌜ Room count (left (now first)) ⌝ }
         ensures { λ r. ⌜ Part-step (judged (some-bytes size) (name-fits (skim count (left (now (first .entry))))) name-flaw) (now (self .entry)) r (now (self .exit)) ⌝ }
     {
@@ -61,7 +61,7 @@ impl<'a> Reader<'a> {
     }
 
     /// An output record, after the `count` outputs from `first` on.
-    pub fn output(
+    fn output(
         &mut self,
         signals: u16,
         first: &Reader<'a>,

@@ -12,7 +12,7 @@ use crate::writer::Gates;
 use crate::writer::Opened;
 use crate::writer::bytes::gate_bytes;
 use crate::writer::bytes::number_bytes;
-use crate::writer::bytes::put;
+use crate::writer::put;
 
 impl Opened {
     /// Writes the number of inputs.

@@ -3,8 +3,8 @@ ghost use mathlib.Core.Path.{_≡_};
 ghost use mathlib.Core.List.{List};
 ghost use Prim.Native.Nat.{ℕ, _+_, _≤_};
 ghost use lib.ListN.{length};
-ghost use Rattle.sheet.specs.Format.{Content, names};
-ghost use Rattle.sheet.specs.Written.{named, Starting, Adding-output, Holds-outputs};
+ghost use Rattle.sheet.specs.Format.{Content, names, output-bytes};
+ghost use Rattle.sheet.specs.Written.{named, put as written, Starting, Adding-output, Holds-outputs};
 ghost use Rattle.sheet.specs.Refusals.{refused, first-output-refusal, output-refusal};
 use crate::fault::Flaw;
 use crate::output::bytes_from;
@@ -12,9 +12,8 @@ use crate::refusal::Refusal;
 use crate::writer::Gates;
 use crate::writer::Outputs;
 use crate::writer::bytes::number_bytes;
-use crate::writer::bytes::put;
 use crate::writer::names::flaw_of;
-use crate::writer::names::put_output;
+use crate::writer::put;
 
 impl Gates {
     /// Writes the first output: no gate comes after it.
@@ -91,4 +90,15 @@ impl Outputs {
             end,
         })
     }
+}
+
+/// Writes an output record at a place.
+fn put_output(place: &mut [u8], at: usize, signal: u16, name: &[u8])
+    requires room { ⌜ at + 3 + length (now name) ≤ length (now place) ⌝ }
+    requires small { ⌜ length (now name) ≤ 16 ⌝ }
+    ensures { λ _. ⌜ now (place .exit) ≡ written (now (place .entry)) at (output-bytes (named signal (now (name .entry)))) ⌝ }
+{
+    put(place, at, &number_bytes(signal));
+    put(place, at + 2, &[name.len() as u8]);
+    put(place, at + 3, name);
 }

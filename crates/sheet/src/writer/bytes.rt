@@ -1,9 +1,6 @@
-//! The bytes of numbers and gate records, and how bytes are put into a place.
+//! The bytes of numbers and gate records.
 ghost use mathlib.Core.Path.{_≡_};
-ghost use Prim.Native.Nat.{_+_, _≤_};
-ghost use lib.ListN.{length};
 ghost use Rattle.sheet.specs.Format.{number-bytes, gate-bytes};
-ghost use Rattle.sheet.specs.Written.{put as written};
 use crate::gate::Gate;
 
 /// The two bytes of a number.
@@ -26,12 +23,4 @@ pub fn gate_bytes(g: Gate) -> [u8; 7]
         (g.c / 256) as u8,
         (g.c % 256) as u8,
     ]
-}
-
-/// Writes some bytes at a place.
-pub fn put(place: &mut [u8], at: usize, bytes: &[u8])
-    requires { ⌜ at + length (now bytes) ≤ length (now place) ⌝ }
-    ensures { λ _. ⌜ now (place .exit) ≡ written (now (place .entry)) at (now (bytes .entry)) ⌝ }
-{
-    place[at..at + bytes.len()].copy_from_slice(bytes);
 }
