@@ -171,3 +171,7 @@ module _ {n : ℕ} {t : List Vertex} (w : Whole n t) {x y : ℕ} (j : Joinable n
             (ek ∙ ap (λ (k : ℕ). carried k b) (sym (smaller-is o)) ∙ ap (carried (min (survivor-of t x) (survivor-of t y))) (sym (larger-is o)))
             (subst (λ (k : ℕ). After-merge n t keep k u) (eg ∙ ap (λ (k : ℕ). k / 2) (sym (larger-is o))) m);
       }
+
+-- nets with one survivor are joined already
+pub joined-already : (n : ℕ) (t : List Vertex) (x y : ℕ) → survivor-of t x ≡ survivor-of t y → Joined n t x y t
+joined-already n t x y e = record { one = e; already = λ _. refl; merged = λ f. absurd (f e) }

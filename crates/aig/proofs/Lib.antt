@@ -1,3 +1,4 @@
+-- The lemmas of this crate.
 pub mod Nets
 pub mod Orders
 pub mod Relinks

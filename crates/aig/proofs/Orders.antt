@@ -1,10 +1,13 @@
 -- Two nets, the smaller first.
-use mathlib.Core.Path.{_≡_, sym, subst, _∙_}
+use mathlib.Core.Path.{_≡_, sym, ap, subst, _∙_}
 use mathlib.Core.Logic.{_⊎_, inl, inr}
+use mathlib.Core.List.{List}
 use Prim.Native.Nat.{ℕ, _<_, _≤_, min, max}
 use native.Mathlib.Nat.{min-eq-left, min-eq-right, max-eq-left, max-eq-right}
 use native.Mathlib.Omega.{arith}
 use Rattle.std.proofs.shelf.Tests.{cases-lt}
+use Rattle.aig.specs.declared.vertex.Vertex.{Vertex}
+use Rattle.aig.specs.Table.{survivor-of}
 
 pub record Ordered (x y a b : ℕ) : Type 0 where
   pub sorted : a ≤ b
@@ -23,6 +26,12 @@ ordered-by {x} {y} {a} {b} p q = elim (cases-lt y x) [
 
 pub ordered-at : {x y p q a b : ℕ} → x ≡ p → y ≡ q → Ordered x y a b → Ordered p q a b
 ordered-at {x} {y} {p} {q} {a} {b} e f o = subst (λ (k : ℕ). Ordered k q a b) e (subst (λ (k : ℕ). Ordered x k a b) f o)
+
+-- the survivors of two nets, found in a table that is another's copy, and ordered
+pub survivors-ordered : {t d e : List Vertex} (x y : ℕ) {l r a b : ℕ} → l ≡ survivor-of d x → d ≡ t → r ≡ survivor-of e y → e ≡ t → a ≡ min l r → b ≡ max l r
+    → Ordered (survivor-of t x) (survivor-of t y) a b
+survivors-ordered x y p dt q et low high =
+    ordered-at (p ∙ ap (λ (u : List Vertex). survivor-of u x) dt) (q ∙ ap (λ (u : List Vertex). survivor-of u y) et) (ordered-by low high)
 
 pub smaller-is : {x y a b : ℕ} → Ordered x y a b → min x y ≡ a
 smaller-is {x} {y} {a} {b} o = let s = o .sorted in elim (o .either) [

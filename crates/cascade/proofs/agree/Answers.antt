@@ -1,3 +1,4 @@
+-- What is left to show of `agree`, beyond what the search finds.
 use mathlib.Core.Path.{ap}
 use Prim.Native.Nat.{ℕ, _^_}
 use native.Mathlib.Omega.{arith}

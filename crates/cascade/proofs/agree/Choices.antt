@@ -1,3 +1,4 @@
+-- What the loop in `agree` keeps true.
 use Prim.Native.Nat.{ℕ, _<_, _≤_}
 use mathlib.Core.Path.{_≡_}
 use lib.ListN.{length}

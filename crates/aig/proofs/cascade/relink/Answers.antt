@@ -1,3 +1,4 @@
+-- What is left to show of `relink`, beyond what the search finds.
 use borrow.Author.Needs.{needs}
 use mathlib.Core.Path.{_≡_, sym, subst}
 use mathlib.Core.List.{List}

@@ -1,3 +1,4 @@
+-- What the loop in `relink` keeps true.
 use Rattle.aig.proofs.Relinks.{Relinking}
 use Rattle.aig.proofs.cascade.relink.Given as given
 

@@ -1,3 +1,4 @@
+-- What is left to show of `matching`, beyond what the search finds.
 use Rattle.aig.specs.Pairs.{at}
 use Rattle.aig.proofs.first_line.matching.Needs as need
 

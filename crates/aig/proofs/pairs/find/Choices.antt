@@ -1,3 +1,4 @@
+-- What the loop in `find` keeps true.
 use Prim.Native.Nat.{ℕ, _<_}
 use mathlib.Core.Path.{_≡_}
 use lib.ListN.{length}

@@ -1,3 +1,4 @@
+-- What is left to show of `fold`, beyond what the search finds.
 use borrow.Author.Needs.{needs}
 use mathlib.Core.Path.{_≡_, sym, _∙_}
 use Prim.Native.Nat.{_<_}

@@ -1,3 +1,4 @@
+-- What is left to show of `fill`, beyond what the search finds.
 use native.Mathlib.Omega.{arith}
 use Rattle.aig.proofs.Filling.{filled-more}
 use Rattle.aig.proofs.values.fill.Needs as need

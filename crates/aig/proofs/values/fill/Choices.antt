@@ -1,3 +1,4 @@
+-- What the loop in `fill` keeps true.
 use Prim.Native.Nat.{ℕ, _<_}
 use mathlib.Core.Path.{_≡_}
 use Rattle.aig.specs.Values.{vertex-value}

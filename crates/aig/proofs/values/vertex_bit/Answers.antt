@@ -1,3 +1,4 @@
+-- What is left to show of `vertex_bit`, beyond what the search finds.
 use mathlib.Core.Path.{_≡_, sym, ap, _∙_}
 use Prim.Native.Nat.{ℕ, _-_, _/_, _^_}
 use lib.Dec.{eqb}

@@ -1,3 +1,4 @@
+-- What is left to show of `join`, beyond what the search finds.
 use mathlib.Core.Path.{_≡_, refl, sym, ap, _∙_}
 use mathlib.Core.List.{List}
 use Rattle.aig.specs.Table.{survivor-of}
@@ -5,7 +6,7 @@ use Rattle.aig.specs.Graphs.{vertices}
 use Rattle.aig.specs.declared.vertex.Vertex.{Vertex}
 use Rattle.aig.proofs.Graphs.{whole-of}
 use Rattle.aig.proofs.Orders.{Ordered, ordered-at, ordered-by}
-use Rattle.aig.proofs.Joining.{joins-by, joined-by}
+use Rattle.aig.proofs.Joining.{joins-by, joined-by, joined-already}
 use Rattle.aig.proofs.graph.Graph.join.Needs as need
 
 pub merge-requires : need.merge-requires
@@ -30,4 +31,4 @@ returns-else-left-right c =
     let l = c .survivor-left .ensures ∙ ap (λ (t : List Vertex). survivor-of t (c .args .x .0)) (c .deref .ensures .value) in
     let r = c .survivor-right .ensures ∙ ap (λ (t : List Vertex). survivor-of t (c .args .y .0)) (c .deref-2 .ensures .value) in
     let e = sym l ∙ c .if-left-right .left ∙ r in
-    record { joined = record { one = e; already = λ _. refl; merged = λ f. absurd (f e) }; same = record { inputs = refl; places = refl } }
+    record { joined = joined-already _ _ (c .args .x .0) (c .args .y .0) e; same = record { inputs = refl; places = refl } }

@@ -1,3 +1,4 @@
+-- What is left to show of `merge`, beyond what the search finds.
 use mathlib.Core.Path.{refl}
 use native.Mathlib.Omega.{arith}
 use Rattle.aig.proofs.Graphs.{graph-ready, graph-whole, graph-after, graph-inside}

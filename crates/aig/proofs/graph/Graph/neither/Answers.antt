@@ -1,3 +1,4 @@
+-- What is left to show of `neither`, beyond what the search finds.
 use mathlib.Core.Path.{_∙_}
 use Rattle.aig.proofs.Making.{makes-neither, anded-with, bounds-both}
 use Rattle.aig.proofs.graph.Graph.neither.Needs as need

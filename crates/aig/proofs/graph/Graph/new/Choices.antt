@@ -1,3 +1,4 @@
+-- What the loop in `new` keeps true.
 use mathlib.Core.Path.{_≡_}
 use Prim.Native.Nat.{_≤_}
 use Rattle.std.specs.Of.Vec.{vec-items, vec-cap}

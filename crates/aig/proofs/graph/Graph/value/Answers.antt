@@ -1,3 +1,4 @@
+-- What is left to show of `value`, beyond what the search finds.
 use mathlib.Core.Path.{_≡_, sym, ap, subst, _∙_}
 use mathlib.Core.List.{List}
 use Prim.Native.Nat.{_/_, _<_}

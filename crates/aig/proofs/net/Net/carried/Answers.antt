@@ -1,3 +1,4 @@
+-- What is left to show of `carried`, beyond what the search finds.
 use Rattle.aig.proofs.Nets.{carried-is}
 use Rattle.aig.proofs.net.Net.carried.Needs as need
 
