@@ -1,0 +1,6 @@
+pub mod Questions
+pub mod Piles
+pub mod Answers
+pub mod Merging
+pub mod Spaces
+pub mod Asked
