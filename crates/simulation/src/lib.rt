@@ -1,0 +1,8 @@
+//! Simulation: the values of all vertices under up to 64 input codes at once, one word a vertex, and the earliest code of a
+//! list that separates two nets. Nothing here allocates.
+mod gathering;
+mod separation;
+mod words;
+
+pub use separation::earliest;
+pub use words::simulate;
