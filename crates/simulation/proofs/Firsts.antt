@@ -1,5 +1,5 @@
--- What the law says of an answer settles it: it is the earliest code's index.
-use mathlib.Core.Path.{_≡_, refl, sym, ap, _∙_}
+-- The law of the earliest code: the definition meets it, and what it says of an answer settles the answer.
+use mathlib.Core.Path.{_≡_, refl, sym, ap, subst, _∙_}
 use mathlib.Core.Logic.{_⊎_, inl, inr}
 use mathlib.Core.Bool.{Bool, true, false, cond, not}
 use mathlib.Core.List.{List, [], _∷_}
@@ -43,4 +43,32 @@ module _ (f g : ℕ → Bool) where
   tells-is (c ∷ cs) None t = elim (cases-bool (differ (f c) (g c))) [
     | inl d ↦ absurd (differ-true (f c) (g c) d (t 0 (omega arith)))
     | inr d ↦ ap later (tells-is cs None (λ j h. t (suc j) (omega arith))) ∙ sym (cond-false _ _ _ d)
+  ]
+
+  -- a list with one more code in front, at which the two functions agree
+  tells-later : (c : ℕ) (cs : List ℕ) (r : Option ℕ) → f c ≡ g c → Tells cs f g r → Tells (c ∷ cs) f g (later r)
+  tells-later c cs (Some k) e t = record {
+    inside = omega (arith, t .inside);
+    apart = t .apart;
+    before = λ j h. before-later j h;
+  } where
+    before-later : (j : ℕ) → j < suc k → f (getD (c ∷ cs) j 0) ≡ g (getD (c ∷ cs) j 0)
+    before-later zero h = e
+    before-later (suc j) h = t .before j (omega arith)
+  tells-later c cs None e t = all
+    where
+    all : (j : ℕ) → j < length (c ∷ cs) → f (getD (c ∷ cs) j 0) ≡ g (getD (c ∷ cs) j 0)
+    all zero h = e
+    all (suc j) h = t j (omega arith)
+
+  -- the earliest code's index meets the law
+  pub earliest-tells : (codes : List ℕ) → Tells codes f g (earliest codes f g)
+  earliest-tells [] = λ j h. absurd (omega arith)
+  earliest-tells (c ∷ cs) = elim (cases-bool (differ (f c) (g c))) [
+    | inl d ↦ subst (Tells (c ∷ cs) f g) (sym (cond-true _ _ _ d)) (record {
+        inside = omega arith;
+        apart = differ-true (f c) (g c) d;
+        before = λ j h. absurd (omega arith);
+      })
+    | inr d ↦ subst (Tells (c ∷ cs) f g) (sym (cond-false _ _ _ d)) (tells-later c cs (earliest cs f g) (differ-false (f c) (g c) d) (earliest-tells cs))
   ]

@@ -31,3 +31,7 @@ pub record First-apart (codes : List ℕ) (f g : ℕ → Bool) (k : ℕ) : Type 
 abbrev pub Tells : List ℕ → (ℕ → Bool) → (ℕ → Bool) → Option ℕ → Type 0
 Tells codes f g (Some k) = First-apart codes f g k
 Tells codes f g None = (j : ℕ) → j < length codes → f (getD codes j 0) ≡ g (getD codes j 0)
+
+-- the answer that the definition gives meets the law, for every list and every two functions
+abbrev pub Earliest-law : Type 0
+Earliest-law = (codes : List ℕ) (f g : ℕ → Bool) → Tells codes f g (earliest codes f g)
