@@ -1,6 +1,5 @@
 -- The bits of words: of an AND, of an exclusive or, of an inverse, and of a word that grows by a bit.
 use mathlib.Core.Path.{_≡_, refl, sym, ap, subst, _∙_}
-
 use mathlib.Core.Bool.{Bool, true, false, not, _&&_}
 use Prim.Native.Nat.{ℕ, zero, suc, _+_, _-_, _*_, _/_, _%_, _^_, _<_, _≤_, min}
 use native.Mathlib.Omega.{arith}
@@ -54,7 +53,7 @@ bit-xor a b k = ap (λ (x : ℕ). eqb (x % 2) 1) (xor-shr a b k) ∙ low-xor (a 
 ones-digit : (j k : ℕ) → bit (2 ^ (j + 1 + k) - 1) k ≡ true
 ones-digit j k =
     let e : (2 ^ (j + 1 + k) - 1) / 2 ^ k ≡ 2 ^ (j + 1) - 1 =
-        ap (λ (x : ℕ). x / 2 ^ k) (ones-split (j + 1) k) ∙ shr-high (2 ^ (j + 1) - 1) k (2 ^ k - 1) (ones-lt k) in
+    ap (λ (x : ℕ). x / 2 ^ k) (ones-split (j + 1) k) ∙ shr-high (2 ^ (j + 1) - 1) k (2 ^ k - 1) (ones-lt k) in
     let p : 2 ^ (j + 1) ≡ 2 ^ j * 2 = pow-add 2 j 1 in
     let q : 0 < 2 ^ j = pow-pos j in
     let odd : (2 ^ (j + 1) - 1) % 2 ≡ 1 = omega arith in

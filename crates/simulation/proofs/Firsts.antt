@@ -35,10 +35,10 @@ module _ (f g : ℕ → Bool) where
   tells-is (c ∷ cs) (Some (suc k)) t = elim (cases-bool (differ (f c) (g c))) [
     | inl d ↦ absurd (differ-true (f c) (g c) d (t .before 0 (omega arith)))
     | inr d ↦ ap later (tells-is cs (Some k) (record {
-        inside = omega (arith, t .inside);
-        apart = t .apart;
-        before = λ j h. t .before (suc j) (omega arith);
-      })) ∙ sym (cond-false _ _ _ d)
+      inside = omega (arith, t .inside);
+      apart = t .apart;
+      before = λ j h. t .before (suc j) (omega arith);
+    })) ∙ sym (cond-false _ _ _ d)
   ]
   tells-is (c ∷ cs) None t = elim (cases-bool (differ (f c) (g c))) [
     | inl d ↦ absurd (differ-true (f c) (g c) d (t 0 (omega arith)))
@@ -57,18 +57,18 @@ module _ (f g : ℕ → Bool) where
     before-later (suc j) h = t .before j (omega arith)
   tells-later c cs None e t = all
     where
-    all : (j : ℕ) → j < length (c ∷ cs) → f (getD (c ∷ cs) j 0) ≡ g (getD (c ∷ cs) j 0)
-    all zero h = e
-    all (suc j) h = t j (omega arith)
+      all : (j : ℕ) → j < length (c ∷ cs) → f (getD (c ∷ cs) j 0) ≡ g (getD (c ∷ cs) j 0)
+      all zero h = e
+      all (suc j) h = t j (omega arith)
 
   -- the earliest code's index meets the law
   pub earliest-tells : (codes : List ℕ) → Tells codes f g (earliest codes f g)
   earliest-tells [] = λ j h. absurd (omega arith)
   earliest-tells (c ∷ cs) = elim (cases-bool (differ (f c) (g c))) [
     | inl d ↦ subst (Tells (c ∷ cs) f g) (sym (cond-true _ _ _ d)) (record {
-        inside = omega arith;
-        apart = differ-true (f c) (g c) d;
-        before = λ j h. absurd (omega arith);
-      })
+      inside = omega arith;
+      apart = differ-true (f c) (g c) d;
+      before = λ j h. absurd (omega arith);
+    })
     | inr d ↦ subst (Tells (c ∷ cs) f g) (sym (cond-false _ _ _ d)) (tells-later c cs (earliest cs f g) (differ-false (f c) (g c) d) (earliest-tells cs))
   ]

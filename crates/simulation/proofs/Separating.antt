@@ -16,7 +16,6 @@ use Rattle.simulation.proofs.Firsts.{differ-true, differ-false}
 module _ (codes : List ℕ) (few : length codes ≤ 64) (f g : ℕ → Bool) (x y : ℕ)
     (fx : (k : ℕ) → k < length codes → bit x k ≡ f (getD codes k 0))
     (gy : (k : ℕ) → k < length codes → bit y k ≡ g (getD codes k 0)) where
-
   bit-differs : (k : ℕ) → k < length codes → differ (f (getD codes k 0)) (g (getD codes k 0)) ≡ bit (bitXor x y) k
   bit-differs k h = sym (
       bit-xor x y k
@@ -30,7 +29,7 @@ module _ (codes : List ℕ) (few : length codes ≤ 64) (f g : ℕ → Bool) (x 
   found-first h = record {
     inside = h;
     apart = differ-true (f (getD codes (trailingZeros 64 (bitXor x y)) 0)) (g (getD codes (trailingZeros 64 (bitXor x y)) 0))
-      (bit-differs (trailingZeros 64 (bitXor x y)) h ∙ trailing-set 64 (bitXor x y) (omega arith));
+        (bit-differs (trailingZeros 64 (bitXor x y)) h ∙ trailing-set 64 (bitXor x y) (omega arith));
     before = λ j l. agree-before j (omega arith) l;
   }
 

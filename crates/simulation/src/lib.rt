@@ -4,6 +4,8 @@ mod examples;
 mod gathering;
 mod laws;
 mod separation;
+#[cfg(test)]
+mod tests;
 mod words;
 
 pub use examples::worked_lists_stand;

@@ -13,13 +13,7 @@ use aig::Net;
 
 /// The index of the first of at most 64 codes under which two nets have different values; none exactly if they agree under
 /// each. The words are left as `simulate` leaves them.
-pub fn earliest(
-    graph: &Graph,
-    codes: &[u64],
-    a: Net,
-    b: Net,
-    words: &mut [u64],
-) -> Option<usize>
+pub fn earliest(graph: &Graph, codes: &[u64], a: Net, b: Net, words: &mut [u64]) -> Option<usize>
     requires few { ⌜ length (now codes) ≤ 64 ⌝ }
     requires first { ⌜ In-use (now graph) a ⌝ }
     requires second { ⌜ In-use (now graph) b ⌝ }

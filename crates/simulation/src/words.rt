@@ -16,7 +16,11 @@ pub fn net_word(words: &[u64], net: Net) -> u64
     ensures { λ r. ⌜ ((k : ℕ) → k < 64 → bit r k ≡ net-value (lane (now (words .entry)) k) (net .0)) ⌝ }
 {
     let word = words[net.vertex()];
-    if net.0 % 2 == 0 { word } else { word ^ u64::MAX }
+    if net.0 % 2 == 0 {
+        word
+    } else {
+        word ^ u64::MAX
+    }
 }
 
 /// The word of the vertex `v`, where `words` has those of earlier vertices.

@@ -15,10 +15,9 @@ loop-k-again c =
     let k = c .loop-k .k in
     let word = c .loop-k .word in
     let inside : k < 64 = omega arith in
-    let code = getD codes k 0 in
-    (
+    let code = getD codes k 0 in (
       grown-small code i k word (c .loop-k .inv .0) inside,
       below-more (λ j. bit (bitOr word (bitAnd (code / 2 ^ i) 1 * 2 ^ k % 2 ^ 64)) j ≡ bit (getD codes j 0) i) k
-        (λ j h. grown-below code i k word (c .loop-k .inv .0) inside j h ∙ c .loop-k .inv .1 j h)
-        (grown-at code i k word (c .loop-k .inv .0) inside),
+          (λ j h. grown-below code i k word (c .loop-k .inv .0) inside j h ∙ c .loop-k .inv .1 j h)
+          (grown-at code i k word (c .loop-k .inv .0) inside),
     )

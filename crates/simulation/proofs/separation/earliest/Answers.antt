@@ -34,9 +34,9 @@ returns-then-first-codes c =
     let f = value (inputs-of g) (vertices g) (c .args .a .0) in
     let h = value (inputs-of g) (vertices g) (c .args .b .0) in
     let first = found-first codes (c .pre .few) f h (c .net-word .result) (c .net-word-2 .result)
-        (holds g codes words (c .pre .few) sim (c .args .a .0) (c .net-word .result) (c .pre .first) (c .net-word .ensures))
-        (holds g codes words (c .pre .few) sim (c .args .b .0) (c .net-word-2 .result) (c .pre .second) (c .net-word-2 .ensures))
-        (c .if-first-codes .taken) in
+    (holds g codes words (c .pre .few) sim (c .args .a .0) (c .net-word .result) (c .pre .first) (c .net-word .ensures))
+    (holds g codes words (c .pre .few) sim (c .args .b .0) (c .net-word-2 .result) (c .pre .second) (c .net-word-2 .ensures))
+    (c .if-first-codes .taken) in
     record {
       found = tells-is f h codes (Some (trailingZeros 64 (bitXor (c .net-word .result) (c .net-word-2 .result)))) first;
       law = first;
@@ -53,9 +53,9 @@ returns-else-first-codes c =
     let f = value (inputs-of g) (vertices g) (c .args .a .0) in
     let h = value (inputs-of g) (vertices g) (c .args .b .0) in
     let none = found-none codes (c .pre .few) f h (c .net-word .result) (c .net-word-2 .result)
-        (holds g codes words (c .pre .few) sim (c .args .a .0) (c .net-word .result) (c .pre .first) (c .net-word .ensures))
-        (holds g codes words (c .pre .few) sim (c .args .b .0) (c .net-word-2 .result) (c .pre .second) (c .net-word-2 .ensures))
-        (c .if-first-codes .left) in
+    (holds g codes words (c .pre .few) sim (c .args .a .0) (c .net-word .result) (c .pre .first) (c .net-word .ensures))
+    (holds g codes words (c .pre .few) sim (c .args .b .0) (c .net-word-2 .result) (c .pre .second) (c .net-word-2 .ensures))
+    (c .if-first-codes .left) in
     record {
       found = tells-is f h codes None none;
       law = none;

@@ -15,10 +15,9 @@ loop-v-again c =
     let v = c .loop-v .v in
     let w = c .vertex-word .result in
     let inside : v < length (vertices g) = omega arith in
-    let there : v < length words = omega arith in
-    (
+    let there : v < length words = omega arith in (
       λ k x hk. filled-more (inputs-of g) (vertices g) (whole-of g .earlier) (getD (c .args .codes .now) k 0) k words v w inside there
-        (c .vertex-word .ensures k hk) (λ y hy. c .loop-v .inv .0 k y hk hy) x,
+          (c .vertex-word .ensures k hk) (λ y hy. c .loop-v .inv .0 k y hk hy) x,
       λ x h. getD-set-other words v x w 0 (λ p. omega arith) ∙ c .loop-v .inv .1 x (omega arith),
     )
 
