@@ -1,10 +1,13 @@
 //! What a graph tells of itself.
 ghost use mathlib.Core.Path.{_≡_};
-ghost use Rattle.aig.specs.Table.{survivor-of};
+ghost use Prim.Native.Nat.{_<_};
+ghost use lib.ListN.{getD};
+ghost use Rattle.aig.specs.Table.{none, survivor-of};
 ghost use Rattle.aig.specs.Graphs.{inputs-of, places-of, vertices, used, In-use};
 use super::Graph;
 use crate::net::Net;
 use crate::pairs::survivor;
+use crate::vertex::Vertex;
 
 impl Graph {
     /// How many inputs there are.
@@ -26,6 +29,14 @@ impl Graph {
         ensures { λ r. ⌜ r ≡ used (now (self .entry)) ⌝ }
     {
         self.table.len()
+    }
+
+    /// A vertex in use, as the table holds it.
+    pub fn vertex(&self, v: usize) -> Vertex
+        requires { ⌜ v < used (now self) ⌝ }
+        ensures { λ r. ⌜ r ≡ getD (vertices (now (self .entry))) v none ⌝ }
+    {
+        self.table[v]
     }
 
     /// The net that stands for `net`.

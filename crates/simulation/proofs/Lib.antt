@@ -1,0 +1,5 @@
+pub mod Bitwise
+pub mod Firsts
+pub mod Trailing
+pub mod Filling
+pub mod Separating
