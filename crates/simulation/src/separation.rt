@@ -26,9 +26,6 @@ pub fn earliest(graph: &Graph, codes: &[u64], a: Net, b: Net, words: &mut [u64])
     simulate(graph, codes, words);
     let difference = net_word(words, a) ^ net_word(words, b);
     let first = difference.trailing_zeros() as usize;
-    if first < codes.len() {
-        Some(first)
-    } else {
-        None
-    }
+    let count = codes.len();
+    if first < count { Some(first) } else { None }
 }

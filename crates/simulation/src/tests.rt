@@ -3,8 +3,6 @@ use crate::earliest;
 use crate::simulate;
 use aig::Graph;
 use aig::Net;
-use aig::NetDebug;
-use aig::NetPartialEq;
 use std::test::*;
 
 fn and(graph: &mut Graph, a: Net, b: Net) -> Result<Net, Fail> {

@@ -25,8 +25,8 @@ holds g codes words few sim net word inside f k h =
     f k (omega arith)
     ∙ net-lane (inputs-of g) (vertices g) (whole-of g .earlier) (getD codes k 0) k words net (sim k (net / 2) h inside)
 
-pub returns-then-first-codes : need.returns-then-first-codes
-returns-then-first-codes c =
+pub returns-then-first-count : need.returns-then-first-count
+returns-then-first-count c =
     let g = c .args .graph .now in
     let codes = c .args .codes .now in
     let words = c .simulate .last .words in
@@ -36,7 +36,7 @@ returns-then-first-codes c =
     let first = found-first codes (c .pre .few) f h (c .net-word .result) (c .net-word-2 .result)
     (holds g codes words (c .pre .few) sim (c .args .a .0) (c .net-word .result) (c .pre .first) (c .net-word .ensures))
     (holds g codes words (c .pre .few) sim (c .args .b .0) (c .net-word-2 .result) (c .pre .second) (c .net-word-2 .ensures))
-    (c .if-first-codes .taken) in
+    (c .if-first-count .taken) in
     record {
       found = tells-is f h codes (Some (trailingZeros 64 (bitXor (c .net-word .result) (c .net-word-2 .result)))) first;
       law = first;
@@ -44,8 +44,8 @@ returns-then-first-codes c =
       rest = c .simulate .ensures .rest;
     }
 
-pub returns-else-first-codes : need.returns-else-first-codes
-returns-else-first-codes c =
+pub returns-else-first-count : need.returns-else-first-count
+returns-else-first-count c =
     let g = c .args .graph .now in
     let codes = c .args .codes .now in
     let words = c .simulate .last .words in
@@ -55,7 +55,7 @@ returns-else-first-codes c =
     let none = found-none codes (c .pre .few) f h (c .net-word .result) (c .net-word-2 .result)
     (holds g codes words (c .pre .few) sim (c .args .a .0) (c .net-word .result) (c .pre .first) (c .net-word .ensures))
     (holds g codes words (c .pre .few) sim (c .args .b .0) (c .net-word-2 .result) (c .pre .second) (c .net-word-2 .ensures))
-    (c .if-first-codes .left) in
+    (c .if-first-count .left) in
     record {
       found = tells-is f h codes None none;
       law = none;
