@@ -1,3 +1,4 @@
 pub mod Merges
 pub mod Reaches
 pub mod Turns
+pub mod Towers

@@ -1,6 +1,5 @@
 -- Two engines in turn: the second is asked on the graph that the first left, and that is the same question.
 use mathlib.Core.Path.{_≡_, refl, sym, ap, subst, _∙_}
-use mathlib.Core.Logic.{_⊎_, inl, inr}
 use mathlib.Core.Bool.{Bool, not}
 use Prim.Native.Nat.{ℕ, _^_, _<_, _≤_}
 use native.Mathlib.Omega.{arith}
@@ -9,7 +8,6 @@ use Rattle.aig.specs.declared.graph.Graph.{Graph}
 use Rattle.aig.specs.declared.net.Net.{Net}
 use Rattle.engine.specs.Questions.{Question, question}
 use Rattle.engine.specs.Piles.{Pile, chain, ladder, rung, Outside}
-use Rattle.engine.specs.Answers.{Decided}
 use Rattle.engine.specs.Merging.{Only-merged}
 use Rattle.engine.specs.Spaces.{words-of, nodes-of, Same-sizes}
 use Rattle.engine.specs.Asked.{asked-of, Askable, Asked}
@@ -18,18 +16,6 @@ use Rattle.engine.specs.declared.answer.Answer.the-variants.{Equal, Unequal, U
 use Rattle.engine.specs.declared.workspace.Workspace.{Workspace}
 use Rattle.engine.proofs.Merges.{same-value, same-question, still-used, merged-again}
 use Rattle.engine.proofs.Reaches.{outside-chain, outside-ladder}
-
--- an engine that decided: no reach is asked for
-pub decided-first : (p p1 : Pile) (g h : Graph) (a b : Net) (low limit : ℕ) (w w1 : Workspace) (r : Answer)
-    → Asked p1 g a b low w r h w1 → Decided r → Asked p g a b limit w r h w1
-decided-first p p1 g h a b low limit w w1 r x d = record {
-  equal = x .equal;
-  width = x .width;
-  apart = x .apart;
-  outside = λ e. absurd (d e);
-  merged = x .merged;
-  sizes = x .sizes;
-}
 
 module _ (g h : Graph) (a b : Net) (limit : ℕ) (w w1 : Workspace) (can : Askable g a b limit w) (m : Only-merged g h) (s : Same-sizes w w1) where
   pub ask-again : Askable h a b limit w1

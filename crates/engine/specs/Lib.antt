@@ -4,3 +4,5 @@ pub mod Answers
 pub mod Merging
 pub mod Spaces
 pub mod Asked
+pub mod Towers
+pub mod Worked
