@@ -10,7 +10,7 @@ use Rattle.aig.specs.Values.{value, vertex-value}
 use Rattle.aig.specs.Algebras.{Forced}
 use Rattle.aig.specs.Cascade.{Composed}
 
--- two nets in use that agree under every code, with different survivors
+-- two nets in use that agree under every code
 pub record Joinable (n : ℕ) (t : List Vertex) (x y : ℕ) : Type 0 where
   pub first : x / 2 < length t
   pub second : y / 2 < length t
