@@ -27,8 +27,9 @@ DECLARED = re.compile(
 )
 LOCAL = [
     re.compile(r"\blet ([a-z][^\s:=(){},;]*-[^\s:=(){},;]*)"),
-    re.compile(r"[λ(]\s*\(?([a-z][^\s:.=(){},;]*-[^\s:.=(){},;]*)(?=[^()]*[.:])"),
+    re.compile(r"λ \(?([a-z][^\s:.=(){},;]*-[^\s:.=(){},;]*)"),
 ]
+BINDER = re.compile(r"[({]([^(){}:]+) : ")
 TOKEN = re.compile(r"[^\s(){}\[\],;.|`:\"]+")
 
 
@@ -65,8 +66,11 @@ def declared(texts):
 def locals_of(text):
     found = set()
     for line in text.split("\n"):
+        code = line.split("--")[0]
         for pattern in LOCAL:
-            found.update(pattern.findall(line.split("--")[0]))
+            found.update(pattern.findall(code))
+        for group in BINDER.findall(code):
+            found.update(group.split())
     return {n for n in found if re.fullmatch(r"[a-z][A-Za-z0-9]*(-[A-Za-z0-9]+)+", n)}
 
 

@@ -1,5 +1,5 @@
 -- The table with one node more is sound: its nodes are good, and the index has the new one.
-use Rattle.std.proofs.Common.{◌≡◌, ℕ, ◌+◌, ◌-◌, ◌<◌, List, [], ◌∷◌, ◌++◌, length, get_or, set, vec_items, vec_len, sym, refl, ap, ◌∙◌, subst, arith, length_set, rules}
+use Rattle.std.proofs.Common.{◌≡◌, ℕ, ◌+◌, ◌-◌, ◌<◌, List, [], ◌∷◌, ◌++◌, length, get_or, set, vec_items, vec_len, sym, refl, ap, ◌∙◌, subst, arith, length-set, rules}
 use Rattle.std.proofs.lemmas.List.{get_or_read}
 use Rattle.bdd.specs.declared.store.nodes.Node.{Node}
 use Rattle.bdd.specs.Diagram.{node, node_at, Good, Grown, Fits}
@@ -31,7 +31,7 @@ returns c =
     let grown : Grown ns (vec_items c.push-reserved-2.new.self) = subst (Grown ns) (sym items) (grown_push ns n) in
     let new_len : c.len-2.result ≡ length ns + 1 = omega (arith, c.len-2.ensures, c.push-reserved-2.ensures.len) in
     let heads_are : set hs b c.len-2.result ≡ set hs (bucket_of m n) (length ns + 1) = ap (λ k. set hs k c.len-2.result) bis ∙ ap (set hs (bucket_of m n)) new_len in
-    let new_wide : m ≡ length (set hs b c.len-2.result) = sym (length_set hs b c.len-2.result) in
+    let new_wide : m ≡ length (set hs b c.len-2.result) = sym (length-set hs b c.len-2.result) in
     let pushed = linked_push m ns nx hs n s.linked (subst (λ k. k < m) bis blt) in
     let linked : LinkedBy m (vec_items c.push-reserved-2.new.self) (vec_items c.push-reserved.new.self) (set hs b c.len-2.result) =
     subst (λ x. LinkedBy m x (vec_items c.push-reserved.new.self) (set hs b c.len-2.result)) (sym items)
