@@ -1,4 +1,6 @@
 //! And-inverter graphs with survivors: nets, vertices, the AND, the nine gate kinds, values under input codes, and merging.
+#![tactic(auto)]
+
 mod cascade;
 mod examples;
 mod first_line;

@@ -1,5 +1,7 @@
 //! Merging at work: the worked merge, and a chain of merges over a full table. Run with the word `time`, it also prints how
 //! long the full table took to build and to merge.
+#![tactic(auto)]
+
 ghost use Rattle.std.specs.Prelude.{◌≡◌, ℕ, ◌≤◌, T, length};
 ghost use Rattle.aig.specs.Values.{value};
 ghost use Rattle.aig.specs.Table.{survivor_of};

@@ -2,6 +2,8 @@
 //!
 //! An engine is asked whether two nets of a graph agree under every input code. It may answer that it does not know, but
 //! never within its reach. Chains and ladders are engines made of engines.
+#![tactic(auto)]
+
 mod answer;
 mod chain;
 mod climbs;

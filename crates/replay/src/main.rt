@@ -1,6 +1,8 @@
 //! Replays a script of calls on one session: a call a line, from standard input or from a file. Each call is printed with
 //! its answer, or with its refusal by number and in words. A line that cannot be read gets a message with its number, and
 //! changes nothing.
+#![tactic(auto)]
+
 mod command;
 mod transcript;
 

@@ -1,5 +1,7 @@
 //! Simulation: the values of all vertices under up to 64 input codes at once, one word a vertex, and the earliest code of a
 //! list that separates two nets. Nothing here allocates.
+#![tactic(auto)]
+
 mod examples;
 mod gathering;
 mod laws;

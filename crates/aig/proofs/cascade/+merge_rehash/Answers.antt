@@ -44,7 +44,7 @@ pub rehash-merge-requires-in-Some-2 : goal.rehash-merge-requires-in-Some-2
 rehash-merge-requires-in-Some-2 t c =
     let e = c.in-Some-find.ensures in (
       omega (arith, c.decreases, later_less c.requires (ordered_at c.survivor-left.ensures c.survivor-right.ensures (ordered_by c.ordered.ensures.low c.ordered.ensures.high)) e.0 e.1 e.2 e.3 e.4 c.if-x-w.false),
-      later_ready c.requires (ordered_at c.survivor-left.ensures c.survivor-right.ensures (ordered_by c.ordered.ensures.low c.ordered.ensures.high)) e.0 e.1 e.2 e.3 e.4 c.if-x-w.false c.in-default.ensures,
+      later_ready c.requires (ordered_at c.survivor-left.ensures c.survivor-right.ensures (ordered_by c.ordered.ensures.low c.ordered.ensures.high)) e.0 e.1 e.2 e.3 e.4 c.if-x-w.false c.in_default.ensures,
     )
 
 pub rehash-returns-in-Some-find : goal.rehash-returns-in-Some-find
@@ -58,4 +58,4 @@ rehash-returns-in-Some-2 t c =
     later_done c.requires (ordered_at c.survivor-left.ensures c.survivor-right.ensures (ordered_by c.ordered.ensures.low c.ordered.ensures.high)) e.0 e.1 e.2 e.3 e.4 c.if-x-w.false c.merge-in-Some-2.ensures
 
 pub rehash-returns-in-None : goal.rehash-returns-in-None
-rehash-returns-in-None t c = alone_done c.requires (ordered_at c.survivor-left.ensures c.survivor-right.ensures (ordered_by c.ordered.ensures.low c.ordered.ensures.high)) c.in-default.ensures c.in-None.ensures
+rehash-returns-in-None t c = alone_done c.requires (ordered_at c.survivor-left.ensures c.survivor-right.ensures (ordered_by c.ordered.ensures.low c.ordered.ensures.high)) c.in_default.ensures c.in-None.ensures

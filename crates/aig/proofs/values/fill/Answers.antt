@@ -5,8 +5,8 @@ use Rattle.aig.proofs.values.fill.Goals as goal
 
 pub loop-v-preserved : goal.loop-v-preserved
 loop-v-preserved c =
-    filled_more c.args.inputs c.args.table.now c.requires.earlier c.args.code c.loop-v.words c.loop-v.v c.vertex-bit.result
-    (omega arith) (omega arith) c.vertex-bit.ensures c.loop-v.invariant
+    filled_more c.args.inputs c.args.table.now c.requires.earlier c.args.code c.loop-v.words c.loop-v.v c.vertex_bit.result
+    (omega arith) (omega arith) c.vertex_bit.ensures c.loop-v.invariant
 
 pub returns : goal.returns
 returns c v h = c.loop-v.invariant v (omega arith)

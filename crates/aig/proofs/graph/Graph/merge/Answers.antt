@@ -4,7 +4,7 @@ use Rattle.aig.proofs.Graphs.{graph_ready, graph_whole, graph_after, graph_insid
 use Rattle.aig.proofs.graph.Graph.merge.Goals as goal
 
 pub merge-requires : goal.merge-requires
-merge-requires c = graph_ready c.args.self.now c.deref-mut.ensures.value c.requires
+merge-requires c = graph_ready c.args.self.now c.deref_mut.ensures.value c.requires
 
 pub invariant-of-self : goal.invariant-of-self
 invariant-of-self c =
@@ -25,6 +25,6 @@ invariant-of-self c =
 
 pub returns : goal.returns
 returns c = record {
-  after = graph_after c.args.self.now c.deref-mut.ensures.value c.requires c.merge.ensures;
+  after = graph_after c.args.self.now c.deref_mut.ensures.value c.requires c.merge.ensures;
   same = record { inputs = refl; places = refl };
 }

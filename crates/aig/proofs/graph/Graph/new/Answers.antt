@@ -7,7 +7,7 @@ use Rattle.aig.proofs.Openings.{row_length, row_more, opening_whole}
 use Rattle.aig.proofs.graph.Graph.new.Goals as goal
 
 pub loop-v-init : goal.loop-v-init
-loop-v-init c = let m = c.in-ok-table.ensures in (m.items, m.capacity)
+loop-v-init c = let m = c.in_ok-table.ensures in (m.items, m.capacity)
 
 pub push-reserved-requires : goal.push-reserved-requires
 push-reserved-requires c =
@@ -18,8 +18,8 @@ push-reserved-requires c =
 pub loop-v-preserved : goal.loop-v-preserved
 loop-v-preserved c =
     let i = c.loop-v.invariant in (
-      c.push-reserved.ensures.items ∙ ap (λ (t : List Vertex). t ++ vertex 0 0 (2 * c.loop-v.v) ∷ []) i.0 ∙ row_more c.loop-v.v,
-      omega (arith, i.1, c.push-reserved.ensures.capacity),
+      c.push_reserved.ensures.items ∙ ap (λ (t : List Vertex). t ++ vertex 0 0 (2 * c.loop-v.v) ∷ []) i.0 ∙ row_more c.loop-v.v,
+      omega (arith, i.1, c.push_reserved.ensures.capacity),
     )
 
 made_is : (c : goal.After-loop-v) → vec_items c.loop-v.table ≡ opening c.args.inputs

@@ -11,6 +11,6 @@ returns c =
     let g = c.args.self.now in
     let P : List Vertex → Type 0 = λ t. held c.fill.new.words (c.args.net.0 / 2) ≡ vertex_value g.inputs t c.args.code (c.args.net.0 / 2) in
     let inn = subst (λ (t : List Vertex). c.args.net.0 / 2 < length t) (sym c.deref.ensures.value) c.requires.inside in
-    c.net-bit.ensures
+    c.net_bit.ensures
     ∙ net_held g.inputs _ g.earlier c.args.code c.fill.new.words c.args.net.0
     (subst P c.deref.ensures.value (c.fill.ensures (c.args.net.0 / 2) inn))
