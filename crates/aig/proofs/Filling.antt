@@ -1,5 +1,5 @@
 -- The loop that fills the words of workspace with values, vertex by vertex.
-use Rattle.std.proofs.Common.{◌≡◌, ℕ, ◌+◌, ◌/◌, ◌%◌, ◌<◌, ◌≤◌, Bool, true, false, not, eqb, ◌≢◌, List, length, get_or, set, sym, refl, ap, ◌∙◌, subst, arith, get_or-set_other, get_or-set_same, below_more}
+use Rattle.std.proofs.Common.{◌≡◌, ℕ, ◌+◌, ◌/◌, ◌%◌, ◌<◌, Bool, true, false, not, eqb, List, length, set, sym, refl, ap, ◌∙◌, arith, get_or-set_other, get_or-set_same, below_more}
 use mir.Val.{bool_byte}
 use Rattle.aig.specs.declared.vertex.Vertex.{Vertex}
 use Rattle.aig.specs.Nets.{flip, net_value}

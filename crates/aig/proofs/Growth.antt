@@ -1,21 +1,20 @@
 -- the AND of two nets: the values of the nets that are known, and a table with one more vertex
-use Rattle.std.proofs.Common.{◌≡◌, ℕ, zero, suc, ◌+◌, ◌-◌, ◌*◌, ◌/◌, ◌%◌, ◌<◌, ◌≤◌, Bool, true, false, cond, not, ◌&&◌, eqb, leb, ◌⊎◌, List, [], ◌∷◌, ◌++◌, length, get_or, sym, refl, ap, ◌∙◌, subst, inl, inr, arith}
+use Rattle.std.proofs.Common.{◌≡◌, ℕ, ◌+◌, ◌-◌, ◌*◌, ◌/◌, ◌%◌, ◌<◌, Bool, false, cond, not, ◌&&◌, eqb, leb, ◌⊎◌, List, [], ◌∷◌, ◌++◌, length, get_or, sym, refl, ap, ◌∙◌, subst, inl, inr, arith}
 use Rattle.std.proofs.lemmas.Bool.{cases_eq}
 use Rattle.std.proofs.lemmas.List.{length_push, get_or_push, get_or_append_left}
 use Rattle.aig.specs.Table.{vertex, none, left_of, right_of, link_of, survivor_of, Stands}
-use Rattle.aig.specs.Invariant.{Proper, Gate, StandingGate, MergedAway, Twins, ReadsEarlier, Whole}
-use Rattle.aig.specs.Pairs.{Present, at, Folds, Known, folds, found, Unknown}
+use Rattle.aig.specs.Invariant.{Proper, StandingGate, MergedAway, Twins, ReadsEarlier, Whole}
+use Rattle.aig.specs.Pairs.{at, Known, folds, found, Unknown}
 use Rattle.aig.specs.Nets.{flip, net_value}
 use Rattle.aig.specs.Algebras.{booleans, and_swap}
-use Rattle.aig.specs.Cascade.{Shape}
 use Rattle.aig.specs.Values.{bit, value_by, vertex_value, value}
-use Rattle.aig.specs.Ands.{Anded, Extends, and_of}
+use Rattle.aig.specs.Ands.{Anded}
 use Rattle.aig.proofs.Orders.{Ordered}
 use Rattle.aig.specs.declared.vertex.Vertex.{Vertex}
 use Rattle.aig.proofs.Nets.{value_twice}
 use Rattle.aig.proofs.Merging.{link_low}
 use Rattle.aig.proofs.Rehashing.{survivor_stands, survivor_low, survivor_value, fold_value, fold_vertex}
-use Rattle.aig.proofs.Valued.{by_same, value_obeys, value_zero, value_gate, value_only, value_across}
+use Rattle.aig.proofs.Valued.{value_obeys, value_zero, value_gate, value_only}
 use Rattle.aig.proofs.Lines.{known_lines, fresh_lines}
 use Rattle.aig.proofs.Wholes.{shape_of, respects_of}
 

@@ -1,5 +1,5 @@
 -- Joining two nets that agree under every code: which merge that is, and that they then have one survivor.
-use Rattle.std.proofs.Common.{◌≡◌, ℕ, zero, suc, ◌+◌, ◌-◌, ◌*◌, ◌/◌, ◌%◌, ◌^◌, ◌<◌, ◌≤◌, min, max, Bool, true, false, not, eqb, ◌⊎◌, List, length, get_or, sym, refl, ap, ◌∙◌, subst, inl, inr, pow-suc, arith, pow_pos, pow-add}
+use Rattle.std.proofs.Common.{◌≡◌, ℕ, suc, ◌+◌, ◌-◌, ◌/◌, ◌%◌, ◌^◌, ◌<◌, ◌≤◌, min, Bool, true, false, not, eqb, List, length, sym, refl, ap, ◌∙◌, subst, inl, inr, pow-suc, arith, pow-add}
 use native.Mathlib.Nat.{zero-div}
 use Rattle.std.proofs.lemmas.Nat.{shl-shr}
 use Rattle.std.proofs.lemmas.Bool.{cases_eq, cases_lt, both_ways}
@@ -9,8 +9,7 @@ use Rattle.aig.specs.Table.{link_of, survivor_of, Stands}
 use Rattle.aig.specs.Values.{bit, vertex_value, value}
 use Rattle.aig.specs.Algebras.{booleans}
 use Rattle.aig.specs.Invariant.{Whole, ReadsEarlier}
-use Rattle.aig.specs.Cascade.{Composed}
-use Rattle.aig.specs.Merges.{Mergeable, AfterMerge, Joinable, Joined, kept, later}
+use Rattle.aig.specs.Merges.{Mergeable, AfterMerge, Joinable, Joined, later}
 use Rattle.aig.proofs.Nets.{bit_cases, half_carried, value_carried, flip_twice}
 use Rattle.aig.proofs.Orders.{Ordered, smaller_is, larger_is}
 use Rattle.aig.proofs.Merging.{carried_carried, carried_own}

@@ -1,11 +1,11 @@
 -- The lines of the AND as the definition has them, from what the lookup found.
-use Rattle.std.proofs.Common.{◌≡◌, ℕ, zero, suc, ◌+◌, ◌*◌, ◌/◌, ◌<◌, ◌≤◌, min, max, Bool, true, false, cond, ◌&&◌, eqb, ltb, ◌⊎◌, List, [], ◌∷◌, ◌++◌, length, Some, None, Option, sym, refl, ap, ◌∙◌, subst, inl, inr, arith}
+use Rattle.std.proofs.Common.{◌≡◌, ℕ, zero, suc, ◌*◌, ◌<◌, ◌≤◌, max, true, List, [], ◌∷◌, ◌++◌, length, Some, None, sym, refl, ap, ◌∙◌, subst, inl, inr, arith}
 use Rattle.std.proofs.lemmas.Bool.{cases_eq, cases_Bool, both_ways, eq-eqb, ne_eqb, eqb-true, lt-ltb, ltb-true, and_parts, and_from, cond-true, cond-false}
 use Rattle.aig.specs.declared.vertex.Vertex.{Vertex}
 use Rattle.aig.specs.Nets.{inverse}
-use Rattle.aig.specs.Table.{left_of, right_of, link_of, survivor_of, vertex, Stands}
+use Rattle.aig.specs.Table.{left_of, right_of, survivor_of, vertex}
 use Rattle.aig.specs.Invariant.{Proper, StandingGate, NoTwins, Whole}
-use Rattle.aig.specs.Pairs.{Folds, zero_first, one_first, same, opposed, Absent, Present, at, Known, folds, found, Unknown}
+use Rattle.aig.specs.Pairs.{Folds, zero_first, one_first, same, opposed, Absent, at, Known, folds, found, Unknown}
 use Rattle.aig.specs.Ands.{Made, has_pair, found as found_below, found_or_fresh, first_line, and_of}
 use Rattle.aig.proofs.Orders.{Ordered, smaller_is, larger_is}
 

@@ -1,5 +1,5 @@
 -- Gates from their ANDs: what each AND gives, put together.
-use Rattle.std.proofs.Common.{◌≡◌, ℕ, ◌+◌, ◌/◌, ◌%◌, ◌<◌, ◌≤◌, Bool, true, false, cond, not, ◌&&◌, ◌||◌, List, length, sym, refl, ap, ◌∙◌, subst, arith}
+use Rattle.std.proofs.Common.{◌≡◌, ℕ, ◌/◌, ◌%◌, ◌<◌, Bool, true, false, cond, not, ◌&&◌, ◌||◌, List, length, sym, refl, ap, ◌∙◌, subst, arith}
 use Rattle.gates.specs.declared.kind.Kind.{Kind}
 use Rattle.gates.specs.Kinds.{differ}
 use Rattle.aig.specs.declared.vertex.Vertex.{Vertex}
@@ -7,7 +7,7 @@ use Rattle.aig.specs.Nets.{inverse, flip}
 use Rattle.aig.specs.Values.{value, vertex_value}
 use Rattle.aig.specs.Algebras.{booleans}
 use Rattle.aig.specs.Ands.{Made, and_of, Extends, Anded}
-use Rattle.aig.specs.Kinds.{inverted, neither_from, neither_of, Makes, Gated, Neither}
+use Rattle.aig.specs.Kinds.{inverted, neither_from, Makes, Gated, Neither}
 use Rattle.aig.specs.Graphs.{SameBounds}
 use Rattle.aig.specs.declared.graph.Graph.{Graph}
 use Rattle.aig.proofs.Nets.{half_carried, value_carried}

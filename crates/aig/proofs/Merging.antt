@@ -1,10 +1,9 @@
 -- what `merge` needs: the relinked table, the sweep over the readers, and its end
-use Rattle.std.proofs.Common.{◌≡◌, ℕ, zero, suc, ◌+◌, ◌-◌, ◌*◌, ◌/◌, ◌%◌, ◌<◌, ◌≤◌, ◌⊎◌, List, length, get_or, sym, refl, ap, ◌∙◌, subst, inl, inr, arith}
+use Rattle.std.proofs.Common.{◌≡◌, ℕ, ◌+◌, ◌*◌, ◌/◌, ◌%◌, ◌<◌, ◌≤◌, ◌⊎◌, List, length, get_or, sym, refl, ap, ◌∙◌, subst, inl, inr, arith}
 use Rattle.std.proofs.lemmas.Bool.{cases_eq}
 use Rattle.aig.specs.Table.{vertex, none, left_of, right_of, link_of, survivor_of, Stands, standing}
 use Rattle.aig.specs.Nets.{carried, flip}
-use Rattle.aig.specs.Cascade.{Composed, Shape, Stale, Clean, Unique, UniqueBut, AllProper, Relinked, Midway, Ready, Step, Merged, Rehashed, Dirty}
-use Rattle.aig.specs.Invariant.{Proper}
+use Rattle.aig.specs.Cascade.{Composed, Shape, Stale, Clean, Relinked, Midway, Ready, Merged, Rehashed, Dirty}
 use Rattle.aig.specs.Algebras.{Algebra, Respects, net_at}
 use Rattle.aig.specs.declared.vertex.Vertex.{Vertex}
 use Rattle.aig.proofs.Nets.{half_carried, value_carried}

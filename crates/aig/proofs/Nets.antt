@@ -1,7 +1,7 @@
 -- Nets as the code computes them, and the value of an inverted net.
-use Rattle.std.proofs.Common.{◌≡◌, ℕ, zero, suc, ◌+◌, ◌-◌, ◌*◌, ◌/◌, ◌%◌, ◌^◌, ◌<◌, ◌≤◌, ◌⊎◌, sym, refl, ap, ◌∙◌, subst, inl, inr, arith}
+use Rattle.std.proofs.Common.{◌≡◌, ℕ, ◌+◌, ◌*◌, ◌/◌, ◌%◌, ◌<◌, ◌≤◌, ◌⊎◌, sym, ap, ◌∙◌, inl, inr, arith}
 use lib.Bits.{bit_and, bit_xor, and_mask, xor_shr, xor_mod, xor_zero_r}
-use Rattle.aig.specs.Nets.{carried, inverse, flip}
+use Rattle.aig.specs.Nets.{carried, flip}
 use Rattle.aig.specs.Algebras.{Algebra, net_at}
 
 pub bit_cases : (x : ℕ) → (x % 2 ≡ 0) ⊎ (x % 2 ≡ 1)

@@ -1,9 +1,9 @@
 -- what `rehash` needs: the new pair, a merge of the vertex itself, and the pair written
-use Rattle.std.proofs.Common.{◌≡◌, ℕ, zero, suc, ◌+◌, ◌-◌, ◌*◌, ◌/◌, ◌%◌, ◌<◌, ◌≤◌, ◌⊎◌, List, length, get_or, set, sym, refl, ap, ◌∙◌, subst, inl, inr, arith, length-set, get_or-set_other, get_or-set_same}
+use Rattle.std.proofs.Common.{◌≡◌, ℕ, ◌+◌, ◌*◌, ◌/◌, ◌%◌, ◌<◌, ◌≤◌, ◌⊎◌, List, length, get_or, set, sym, ap, ◌∙◌, subst, inl, inr, arith, length-set, get_or-set_other, get_or-set_same}
 use Rattle.std.proofs.lemmas.Bool.{cases_eq}
 use Rattle.aig.specs.Table.{vertex, none, left_of, right_of, link_of, survivor_of, Stands, standing}
-use Rattle.aig.specs.Nets.{carried, inverse, flip}
-use Rattle.aig.specs.Cascade.{Composed, Shape, Stale, Clean, Unique, UniqueBut, AllProper, Midway, Ready, Step, Merged, Rehashed, Dirty}
+use Rattle.aig.specs.Nets.{carried, flip}
+use Rattle.aig.specs.Cascade.{Composed, Shape, Stale, Clean, UniqueBut, AllProper, Ready, Merged, Rehashed, Dirty}
 use Rattle.aig.specs.Invariant.{Proper}
 use Rattle.aig.specs.Pairs.{Folds, zero_first, one_first, same, opposed}
 use Rattle.aig.specs.Algebras.{Algebra, Of, Carrier, Respects, net_at}

@@ -1,8 +1,8 @@
 -- The loop of `relink`: the links that it has taken over so far.
-use Rattle.std.proofs.Common.{◌≡◌, ℕ, zero, suc, ◌+◌, ◌-◌, ◌*◌, ◌/◌, ◌%◌, ◌^◌, ◌<◌, ◌≤◌, Bool, true, false, cond, eqb, ◌⊎◌, List, length, get_or, set, sym, refl, ap, ◌∙◌, subst, inl, inr, arith, length-set, get_or-set_other, get_or-set_same}
+use Rattle.std.proofs.Common.{◌≡◌, ℕ, ◌+◌, ◌/◌, ◌<◌, ◌≤◌, cond, eqb, List, length, get_or, set, sym, refl, ap, ◌∙◌, subst, inl, inr, arith, get_or-set_other, get_or-set_same}
 use Rattle.std.proofs.lemmas.Bool.{eq-eqb, ne_eqb, cases_eq, cond-true, cond-false}
 use Rattle.aig.specs.Nets.{carried}
-use Rattle.aig.specs.Table.{net, left_of, right_of, link_of, none}
+use Rattle.aig.specs.Table.{net, none}
 use Rattle.aig.specs.Cascade.{Relinked}
 use Rattle.aig.specs.declared.net.Net.{Net}
 use Rattle.aig.specs.declared.vertex.Vertex.{Vertex}

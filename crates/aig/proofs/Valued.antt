@@ -1,10 +1,10 @@
 -- the values of a table's vertices: they are the only ones that its gates allow
-use Rattle.std.proofs.Common.{◌≡◌, ℕ, zero, suc, ◌+◌, ◌-◌, ◌*◌, ◌/◌, ◌%◌, ◌<◌, ◌≤◌, Bool, true, false, cond, not, ◌&&◌, eqb, leb, ◌⊎◌, List, length, get_or, sym, refl, ap, ◌∙◌, subst, inl, inr, arith}
+use Rattle.std.proofs.Common.{◌≡◌, ℕ, zero, suc, ◌-◌, ◌/◌, ◌%◌, ◌<◌, ◌≤◌, Bool, false, not, ◌&&◌, List, length, sym, refl, ap, ◌∙◌, inl, inr, arith}
 use Rattle.std.proofs.lemmas.Bool.{cases_eq, cases_lt, eq-eqb, ne_eqb, le-leb, lt-leb, cond-true, cond-false}
-use Rattle.aig.specs.Table.{left_of, right_of, link_of}
+use Rattle.aig.specs.Table.{left_of, right_of}
 use Rattle.aig.specs.Nets.{flip, net_value}
-use Rattle.aig.specs.Values.{bit, value_by, value_in, vertex_value, value}
-use Rattle.aig.specs.Invariant.{Gate, ReadsEarlier}
+use Rattle.aig.specs.Values.{bit, value_by, value_in, vertex_value}
+use Rattle.aig.specs.Invariant.{ReadsEarlier}
 use Rattle.aig.specs.declared.vertex.Vertex.{Vertex}
 
 -- the three kinds of vertices

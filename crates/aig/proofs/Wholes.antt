@@ -1,12 +1,12 @@
 -- the invariant of a graph, before and after a merge
-use Rattle.std.proofs.Common.{◌≡◌, ℕ, zero, suc, ◌+◌, ◌-◌, ◌*◌, ◌/◌, ◌%◌, ◌<◌, ◌≤◌, Bool, not, ◌⊎◌, List, length, get_or, sym, refl, ap, ◌∙◌, subst, inl, inr, arith}
+use Rattle.std.proofs.Common.{◌≡◌, ℕ, ◌*◌, ◌/◌, ◌%◌, ◌<◌, not, ◌⊎◌, List, length, sym, refl, ap, ◌∙◌, subst, inl, inr, arith}
 use Rattle.std.proofs.lemmas.Bool.{cases_eq}
 use Rattle.aig.specs.Table.{left_of, right_of, link_of, Stands}
-use Rattle.aig.specs.Nets.{flip, net_value}
+use Rattle.aig.specs.Nets.{flip}
 use Rattle.aig.specs.Algebras.{Respects, booleans, bits}
 use Rattle.aig.specs.Cascade.{Shape, Midway, Ready, Merged, Stale, Clean}
 use Rattle.aig.specs.Values.{vertex_value, value}
-use Rattle.aig.specs.Invariant.{Gate, StandingGate, MergedAway, Twins, ReadsEarlier, Whole}
+use Rattle.aig.specs.Invariant.{StandingGate, ReadsEarlier, Whole}
 use Rattle.aig.specs.Merges.{Mergeable, AfterMerge}
 use Rattle.aig.specs.declared.vertex.Vertex.{Vertex}
 use Rattle.aig.proofs.Merging.{link_low}

@@ -3,7 +3,6 @@ use Rattle.std.specs.Prelude.{◌≡◌, ℕ, ◌/◌, ◌<◌, List, length, ve
 use Rattle.aig.specs.declared.vertex.Vertex.{Vertex}
 use Rattle.aig.specs.declared.graph.Graph.{Graph}
 use Rattle.aig.specs.declared.net.Net.{Net}
-use Rattle.aig.specs.Values.{value}
 
 abbrev pub inputs_of : Graph → ℕ
 inputs_of g = g.inputs

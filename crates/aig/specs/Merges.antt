@@ -1,5 +1,5 @@
 -- Merging two nets that have one value under every code.
-use Rattle.std.specs.Prelude.{◌≡◌, ℕ, ◌*◌, ◌/◌, ◌<◌, min, max, List, length, ◌≢◌, slice_index_or}
+use Rattle.std.specs.Prelude.{◌≡◌, ℕ, ◌/◌, ◌<◌, min, max, List, length, ◌≢◌, slice_index_or}
 use Rattle.aig.specs.declared.vertex.Vertex.{Vertex}
 use Rattle.aig.specs.Nets.{carried}
 use Rattle.aig.specs.Table.{none, link_of, survivor_of, Stands}

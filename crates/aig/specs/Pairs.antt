@@ -1,5 +1,5 @@
 -- Pairs of nets with the smaller first, line by line: what a pair folds to, and which vertex has it.
-use Rattle.std.specs.Prelude.{◌≡◌, ℕ, ◌*◌, ◌<◌, List, ◌≢◌}
+use Rattle.std.specs.Prelude.{◌≡◌, ℕ, ◌*◌, List, ◌≢◌}
 use Rattle.aig.specs.declared.vertex.Vertex.{Vertex}
 use Rattle.aig.specs.Nets.{inverse}
 use Rattle.aig.specs.Table.{left_of, right_of}

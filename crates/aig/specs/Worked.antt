@@ -1,8 +1,7 @@
 -- A worked run with two inputs, as one statement: each gate's net in turn, and values of one of them.
-use Rattle.std.specs.Prelude.{◌≡◌, ℕ, true, false, List}
+use Rattle.std.specs.Prelude.{◌≡◌, ℕ, true, false}
 use Rattle.gates.specs.declared.kind.Kind.{Kind}
 use Rattle.gates.specs.declared.kind.Kind.TheVariants.{And, Or, Xor, Mux}
-use Rattle.aig.specs.declared.vertex.Vertex.{Vertex}
 use Rattle.aig.specs.Table.{opening}
 use Rattle.aig.specs.Values.{value}
 use Rattle.aig.specs.Ands.{Made}

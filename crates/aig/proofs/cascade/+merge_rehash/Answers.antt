@@ -1,6 +1,5 @@
 -- What is left to show of `merge` and `rehash`, beyond what the search finds.
-use Rattle.std.proofs.Common.{◌≡◌, ◌+◌, ◌*◌, ◌<◌, T, List, length, get_or, set, sym, subst, arith, rules}
-use Rattle.aig.specs.Table.{standing, Stands}
+use Rattle.std.proofs.Common.{◌+◌, List, sym, subst, arith}
 use Rattle.aig.specs.declared.vertex.Vertex.{Vertex}
 use Rattle.aig.proofs.Orders.{ordered_at, ordered_by}
 use Rattle.aig.proofs.Sweeps.{Sweeping}

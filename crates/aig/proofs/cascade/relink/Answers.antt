@@ -1,8 +1,8 @@
 -- What is left to show of `relink`, beyond what the search finds.
-use Rattle.std.proofs.Common.{◌≡◌, ◌+◌, ◌<◌, List, length, get_or, set, sym, subst, arith, rules}
+use Rattle.std.proofs.Common.{◌+◌, ◌<◌, List, length, get_or, sym, subst, arith}
 use Rattle.aig.specs.Table.{none}
 use Rattle.aig.specs.declared.vertex.Vertex.{Vertex}
-use Rattle.aig.proofs.Relinks.{Relinking, relinking_none, relinking_more, relinked_yes, relinked_no, relinking_all}
+use Rattle.aig.proofs.Relinks.{Relinking, relinking_more, relinked_yes, relinked_no}
 use Rattle.aig.proofs.cascade.relink.Goals as goal
 use Rattle.aig.proofs.cascade.relink.Goals.{then-vertex-gone, else-vertex-gone}
 

@@ -1,5 +1,5 @@
 -- What the loop in `find` keeps true.
-use Rattle.std.proofs.Common.{◌≡◌, ℕ, ◌<◌, length}
+use Rattle.std.proofs.Common.{◌≡◌, ℕ, ◌<◌}
 use Rattle.aig.specs.Table.{Stands, left_of, right_of}
 use Rattle.aig.proofs.pairs.find.Given as goal
 

@@ -1,5 +1,5 @@
 -- What is left to show of `vertex_bit`, beyond what the search finds.
-use Rattle.std.proofs.Common.{◌≡◌, ℕ, ◌-◌, ◌/◌, ◌^◌, eqb, sym, ap, ◌∙◌}
+use Rattle.std.proofs.Common.{ℕ, ◌-◌, ◌/◌, ◌^◌, eqb, sym, ap, ◌∙◌}
 use lib.Bits.{and_mask}
 use Rattle.aig.specs.Words.{held}
 use Rattle.aig.proofs.Valued.{by_input}

@@ -1,12 +1,11 @@
 -- Each kind by its ANDs, and its Boolean function by theirs.
-use Rattle.std.proofs.Common.{◌≡◌, ℕ, Bool, not, List, sym, refl, ap, ◌∙◌, subst}
+use Rattle.std.proofs.Common.{◌≡◌, ℕ, not, List, refl, ap, subst}
 use Rattle.aig.specs.Nets.{inverse}
 use Rattle.aig.specs.Values.{value}
 use Rattle.aig.specs.Ands.{Anded}
 use Rattle.aig.specs.Kinds.{Neither}
 use Rattle.aig.specs.Graphs.{inputs_of, vertices}
 use Rattle.aig.specs.declared.vertex.Vertex.{Vertex}
-use Rattle.aig.specs.declared.graph.Graph.{Graph}
 use Rattle.aig.proofs.Making.{value_inverse, makes_and, makes_inverse, makes_same, makes_none, gated_as, or_function, nor_function, xor_function, mux_function}
 use Rattle.aig.proofs.graph.Graph.gate.Goals as goal
 

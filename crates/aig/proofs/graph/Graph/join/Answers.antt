@@ -1,10 +1,9 @@
 -- What is left to show of `join`, beyond what the search finds.
-use Rattle.std.proofs.Common.{◌≡◌, List, sym, refl, ap, ◌∙◌}
+use Rattle.std.proofs.Common.{List, sym, refl, ap, ◌∙◌}
 use Rattle.aig.specs.Table.{survivor_of}
-use Rattle.aig.specs.Graphs.{vertices}
 use Rattle.aig.specs.declared.vertex.Vertex.{Vertex}
 use Rattle.aig.proofs.Graphs.{whole_of}
-use Rattle.aig.proofs.Orders.{Ordered, ordered_at, ordered_by}
+use Rattle.aig.proofs.Orders.{ordered_at, ordered_by}
 use Rattle.aig.proofs.Joining.{joins_by, joined_by, joined_already}
 use Rattle.aig.proofs.graph.Graph.join.Goals as goal
 

@@ -1,5 +1,4 @@
 -- What is left to show of `neither`, beyond what the search finds.
-use Rattle.std.proofs.Common.{◌∙◌}
 use Rattle.aig.proofs.Making.{makes_neither, anded_with, bounds_both}
 use Rattle.aig.proofs.graph.Graph.neither.Goals as goal
 

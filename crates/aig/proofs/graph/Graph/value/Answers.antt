@@ -1,5 +1,5 @@
 -- What is left to show of `value`, beyond what the search finds.
-use Rattle.std.proofs.Common.{◌≡◌, ◌/◌, ◌<◌, List, length, sym, ap, ◌∙◌, subst}
+use Rattle.std.proofs.Common.{◌≡◌, ◌/◌, ◌<◌, List, length, sym, ◌∙◌, subst}
 use Rattle.aig.specs.Values.{vertex_value}
 use Rattle.aig.specs.Words.{held}
 use Rattle.aig.specs.declared.vertex.Vertex.{Vertex}
