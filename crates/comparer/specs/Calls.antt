@@ -11,7 +11,7 @@ use Rattle.comparer.specs.declared.refusal.Refusal.{Refusal}
 use Rattle.comparer.specs.declared.refusal.Refusal.TheVariants.{Memory}
 use Rattle.comparer.specs.declared.session.Session.{Session}
 use Rattle.comparer.specs.Refusals.{number_of}
-use Rattle.comparer.specs.Sessions.{inputs_of, places_of, vertices, used}
+use Rattle.comparer.specs.Sessions.{inputs_of, places_of, vertices}
 use Rattle.comparer.specs.Checks.{open_refusal, gate_refusal, value_refusal}
 
 -- a session that is not opened has no input, no place and no vertex in use

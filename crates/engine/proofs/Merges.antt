@@ -1,18 +1,15 @@
 -- Merges leave every question as it was, and merges after merges are merges.
-use Rattle.std.proofs.Common.{◌≡◌, ℕ, ◌*◌, ◌/◌, ◌%◌, ◌<◌, ◌≤◌, Bool, true, false, cond, not, ltb, ◌⊎◌, List, length, sym, refl, ap, ◌∙◌, subst, inl, inr, arith, ltb-true}
+use Rattle.std.proofs.Common.{◌≡◌, ℕ, ◌/◌, ◌%◌, ◌<◌, ◌≤◌, Bool, true, false, cond, not, ltb, sym, refl, ap, ◌∙◌, arith, ltb-true}
 use mathlib.Core.Path.{fun_ext}
-use Rattle.std.proofs.lemmas.Bool.{cases_eq}
 use Rattle.aig.specs.Nets.{flip, net_value}
-use Rattle.aig.specs.Table.{link_of, Stands}
-use Rattle.aig.specs.Values.{vertex_value, value}
-use Rattle.aig.specs.Cascade.{Composed}
-use Rattle.aig.specs.Graphs.{inputs_of, places_of, vertices, used, InUse}
+use Rattle.aig.specs.Table.{link_of}
+use Rattle.aig.specs.Values.{value}
+use Rattle.aig.specs.Graphs.{inputs_of, vertices, used}
 use Rattle.aig.specs.declared.graph.Graph.{Graph}
-use Rattle.aig.specs.declared.net.Net.{Net}
 use Rattle.aig.proofs.Graphs.{whole_of}
 use Rattle.aig.proofs.Wholes.{shape_of}
 use Rattle.aig.proofs.Merging.{link_low, composed_none, composed_more}
-use Rattle.engine.specs.Questions.{Question, functions_of, question}
+use Rattle.engine.specs.Questions.{functions_of, question}
 use Rattle.engine.specs.Merging.{function_in, OnlyMerged}
 
 pub low_links : (g : Graph) → (v : ℕ) → v < used g → link_of (vertices g) v / 2 ≤ v

@@ -1,7 +1,7 @@
 -- Outside a chain is outside both its parts, and outside a ladder is outside the part below at both limits.
-use Rattle.std.proofs.Common.{◌≡◌, ℕ, Bool, true, false, ◌||◌, List, [], ◌∷◌, ◌++◌, sym, refl, ap, ◌∙◌, subst}
+use Rattle.std.proofs.Common.{◌≡◌, ℕ, Bool, true, false, ◌||◌, List, [], ◌∷◌, ◌++◌}
 use Rattle.engine.specs.Questions.{Question, at_limit}
-use Rattle.engine.specs.Piles.{Reach, Pile, single, chain, ladder, rung, reach_of, Asking, asking, engines, OutsideEach, Outside}
+use Rattle.engine.specs.Piles.{Pile, single, chain, ladder, rung, reach_of, Asking, engines, OutsideEach, Outside}
 
 either_false : (x y : Bool) → x ≡ false → y ≡ false → (x || y) ≡ false
 either_false true y e f = e

@@ -1,5 +1,5 @@
 -- A pile put together at run time: what its two parts answered in turn, told of the whole.
-use Rattle.std.proofs.Common.{◌≡◌, ℕ, sym, ap, ◌∙◌, subst, inr}
+use Rattle.std.proofs.Common.{◌≡◌, ℕ, sym, subst, inr}
 use Rattle.aig.specs.declared.graph.Graph.{Graph}
 use Rattle.aig.specs.declared.net.Net.{Net}
 use Rattle.engine.specs.Questions.{Question}

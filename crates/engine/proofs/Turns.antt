@@ -1,15 +1,15 @@
 -- Two engines in turn: the second is asked on the graph that the first left, and that is the same question.
-use Rattle.std.proofs.Common.{◌≡◌, ℕ, ◌^◌, ◌<◌, ◌≤◌, Bool, not, sym, refl, ap, ◌∙◌, subst, arith}
-use Rattle.aig.specs.Graphs.{inputs_of, vertices, used}
+use Rattle.std.proofs.Common.{◌≡◌, ℕ, ◌^◌, ◌<◌, not, sym, refl, ap, ◌∙◌, subst, arith}
+use Rattle.aig.specs.Graphs.{inputs_of, vertices}
 use Rattle.aig.specs.declared.graph.Graph.{Graph}
 use Rattle.aig.specs.declared.net.Net.{Net}
-use Rattle.engine.specs.Questions.{Question, question}
+use Rattle.engine.specs.Questions.{question}
 use Rattle.engine.specs.Piles.{Pile, chain, ladder, rung, Outside}
 use Rattle.engine.specs.Merging.{OnlyMerged}
-use Rattle.engine.specs.Spaces.{words_of, nodes_of, SameSizes}
+use Rattle.engine.specs.Spaces.{nodes_of, SameSizes}
 use Rattle.engine.specs.Asked.{asked_of, Askable, Asked}
 use Rattle.engine.specs.declared.answer.Answer.{Answer}
-use Rattle.engine.specs.declared.answer.Answer.TheVariants.{Equal, Unequal, Undecided}
+use Rattle.engine.specs.declared.answer.Answer.TheVariants.{Undecided}
 use Rattle.engine.specs.declared.workspace.Workspace.{Workspace}
 use Rattle.engine.proofs.Merges.{same_value, same_question, still_used, merged_again}
 use Rattle.engine.proofs.Reaches.{outside_chain, outside_ladder}

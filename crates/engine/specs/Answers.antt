@@ -1,5 +1,5 @@
 -- Which answers two engines give in turn, the second asked only where the first is undecided.
-use Rattle.std.specs.Prelude.{◌≡◌, ℕ, ◌⊎◌}
+use Rattle.std.specs.Prelude.{◌≡◌, ◌⊎◌}
 use Rattle.engine.specs.Questions.{Question, at_limit}
 use Rattle.engine.specs.Piles.{rung}
 use Rattle.engine.specs.declared.answer.Answer.{Answer}

@@ -1,7 +1,7 @@
 -- Piles on examples, and what being outside a pile says of its own reach.
 use Rattle.std.specs.Prelude.{◌≡◌, ℕ, false, List, [], ◌∷◌, map}
 use Rattle.engine.specs.Questions.{Question}
-use Rattle.engine.specs.Piles.{Reach, Pile, single, chain, ladder, rung, reach_of, Asking, engines, Outside}
+use Rattle.engine.specs.Piles.{Reach, Pile, single, chain, ladder, rung, reach_of, engines, Outside}
 
 -- the limits at which the engines in a pile may be asked
 abbrev pub limits : Pile → ℕ → List ℕ

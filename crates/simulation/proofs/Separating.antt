@@ -1,5 +1,5 @@
 -- The difference of two words, and the first code at which it is set: what the trailing zeros say of a list of codes.
-use Rattle.std.proofs.Common.{◌≡◌, ℕ, ◌<◌, ◌≤◌, Bool, true, false, List, length, get_or, sym, ap, ◌∙◌, arith}
+use Rattle.std.proofs.Common.{◌≡◌, ℕ, ◌<◌, ◌≤◌, Bool, List, length, get_or, sym, ap, ◌∙◌, arith}
 use lib.Bits.{bit_xor}
 use lib.Count.{count_trailing_zeros}
 use Rattle.aig.specs.Values.{bit}

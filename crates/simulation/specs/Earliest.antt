@@ -1,5 +1,5 @@
 -- The earliest code of a list that separates two functions, by its index.
-use Rattle.std.specs.Prelude.{◌≡◌, ℕ, zero, suc, ◌<◌, Bool, true, false, cond, not, List, [], ◌∷◌, length, Some, None, Option, slice_index}
+use Rattle.std.specs.Prelude.{◌≡◌, ℕ, suc, ◌<◌, Bool, true, false, cond, not, List, [], ◌∷◌, length, Some, None, Option, slice_index}
 
 abbrev pub differ : Bool → Bool → Bool
 differ true b = not b

@@ -1,4 +1,4 @@
-use Rattle.std.proofs.Common.{◌≡◌, ℕ, ◌+◌, ◌*◌, ◌/◌, ◌%◌, ◌^◌, ◌<◌, get_or, ◌∙◌, arith, below_more}
+use Rattle.std.proofs.Common.{◌≡◌, ◌*◌, ◌/◌, ◌%◌, ◌^◌, ◌<◌, get_or, ◌∙◌, arith, below_more}
 use lib.Bits.{bit_and, bit_or}
 use Rattle.aig.specs.Values.{bit}
 use Rattle.simulation.proofs.Bitwise.{grown_small, grown_below, grown_at}

@@ -28,12 +28,12 @@ returns-then-first-count c =
     let sim = c.simulate.ensures.simulated in
     let f = value (inputs_of g) (vertices g) c.args.a.0 in
     let h = value (inputs_of g) (vertices g) c.args.b.0 in
-    let first = found_first codes c.requires.few f h c.net-word.result c.net-word-2.result
-    (holds g codes words c.requires.few sim c.args.a.0 c.net-word.result c.requires.first c.net-word.ensures)
-    (holds g codes words c.requires.few sim c.args.b.0 c.net-word-2.result c.requires.second c.net-word-2.ensures)
+    let first = found_first codes c.requires.few f h c.net_word.result c.net_word-2.result
+    (holds g codes words c.requires.few sim c.args.a.0 c.net_word.result c.requires.first c.net_word.ensures)
+    (holds g codes words c.requires.few sim c.args.b.0 c.net_word-2.result c.requires.second c.net_word-2.ensures)
     c.if-first-count.true in
     record {
-      found = tells_is f h codes (Some (count_trailing_zeros 64 (bit_xor c.net-word.result c.net-word-2.result))) first;
+      found = tells_is f h codes (Some (count_trailing_zeros 64 (bit_xor c.net_word.result c.net_word-2.result))) first;
       law = first;
       simulated = sim;
       rest = c.simulate.ensures.rest;
@@ -47,9 +47,9 @@ returns-else-first-count c =
     let sim = c.simulate.ensures.simulated in
     let f = value (inputs_of g) (vertices g) c.args.a.0 in
     let h = value (inputs_of g) (vertices g) c.args.b.0 in
-    let none = found_none codes c.requires.few f h c.net-word.result c.net-word-2.result
-    (holds g codes words c.requires.few sim c.args.a.0 c.net-word.result c.requires.first c.net-word.ensures)
-    (holds g codes words c.requires.few sim c.args.b.0 c.net-word-2.result c.requires.second c.net-word-2.ensures)
+    let none = found_none codes c.requires.few f h c.net_word.result c.net_word-2.result
+    (holds g codes words c.requires.few sim c.args.a.0 c.net_word.result c.requires.first c.net_word.ensures)
+    (holds g codes words c.requires.few sim c.args.b.0 c.net_word-2.result c.requires.second c.net_word-2.ensures)
     c.if-first-count.false in
     record {
       found = tells_is f h codes None none;

@@ -1,4 +1,4 @@
-use Rattle.std.proofs.Common.{◌≡◌, ℕ, not, get_or, sym, ap, ◌∙◌}
+use Rattle.std.proofs.Common.{ℕ, not, get_or, sym, ap, ◌∙◌}
 use Rattle.aig.specs.Values.{bit}
 use Rattle.simulation.specs.Lanes.{lane}
 use Rattle.simulation.proofs.Bitwise.{bit_inverse}

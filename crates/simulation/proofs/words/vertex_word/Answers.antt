@@ -1,4 +1,4 @@
-use Rattle.std.proofs.Common.{◌≡◌, ℕ, ◌<◌, Bool, ◌&&◌, get_or, sym, ap, ◌∙◌, arith}
+use Rattle.std.proofs.Common.{◌<◌, Bool, ◌&&◌, get_or, sym, ap, ◌∙◌, arith}
 use Rattle.aig.specs.Nets.{net_value}
 use Rattle.aig.specs.Graphs.{inputs_of, vertices}
 use Rattle.aig.specs.Values.{bit}
@@ -14,8 +14,8 @@ returns-else-v-inputs c k h =
     let ρ = lane c.args.words.now k in
     let low : k < 64 = omega arith in
     let after : inputs_of g < c.args.v = omega arith in
-    bit-bit_and c.net-word.result c.net-word-else-v-inputs.result k
-    ∙ ap (λ (b : Bool). b && bit c.net-word-else-v-inputs.result k) (c.net-word.ensures k low)
-    ∙ ap (λ (b : Bool). net_value ρ c.vertex-gate.result.left.0 && b) (c.net-word-else-v-inputs.ensures k low)
+    bit-bit_and c.net_word.result c.net_word-else-v-inputs.result k
+    ∙ ap (λ (b : Bool). b && bit c.net_word-else-v-inputs.result k) (c.net_word.ensures k low)
+    ∙ ap (λ (b : Bool). net_value ρ c.vertex-gate.result.left.0 && b) (c.net_word-else-v-inputs.ensures k low)
     ∙ ap (λ (x : Vertex). net_value ρ x.left.0 && net_value ρ x.right.0) c.vertex-gate.ensures
     ∙ sym (by_gate (inputs_of g) (vertices g) (get_or c.args.codes.now k 0) ρ c.args.v after)

@@ -1,10 +1,7 @@
-use Rattle.std.proofs.Common.{◌≡◌, ℕ, sym, ap, ◌∙◌, subst, ap₂, inr, arith}
-use Rattle.engine.specs.Questions.{Question}
-use Rattle.engine.specs.Piles.{Pile, chain, ladder, rung}
-use Rattle.engine.specs.Answers.{Giving, Chained, Climbed}
-use Rattle.engine.specs.Asked.{asked_of}
+use Rattle.std.proofs.Common.{◌≡◌, sym, ap, ◌∙◌, ap₂, arith}
+use Rattle.engine.specs.Piles.{chain, ladder, rung}
+use Rattle.engine.specs.Answers.{Chained, Climbed}
 use Rattle.engine.specs.Towers.{tower_pile, tower_gives}
-use Rattle.engine.specs.declared.answer.Answer.TheVariants.{Undecided}
 use Rattle.engine.proofs.Towers.{chain_climbed, ladder_climbed}
 use Rattle.engine.proofs.tower.Tower.+climb.Goals as goal
 
