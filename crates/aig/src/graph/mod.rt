@@ -5,7 +5,7 @@ ghost use Rattle.aig.specs.Invariant.{InputsThere, LinksStand, ReadsEarlier, Rea
 use crate::vertex::Vertex;
 
 mod ands;
-mod gates;
+mod gating;
 mod merges;
 mod opens;
 mod reads;

@@ -1,7 +1,7 @@
 //! A session: a graph that is opened, grown gate by gate, and asked for values.
 use aig::Graph;
 
-mod gates;
+mod gating;
 mod opens;
 mod values;
 

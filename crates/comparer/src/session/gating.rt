@@ -1,4 +1,4 @@
-//! Gates.
+//! The call that builds a gate.
 ghost use Rattle.std.specs.Prelude.{◌≡◌};
 ghost use Rattle.comparer.specs.Calls.{Gated};
 ghost use Rattle.comparer.specs.Checks.{operand_check, Passed};
