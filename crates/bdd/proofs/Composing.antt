@@ -124,10 +124,10 @@ half_is ns n₁ test low nt good grown in-t in-l is ρ =
     ap₂ ◌&&◌ (ap (eval n₁ ρ) is ∙ eval_flip n₁ ρ test ∙ ap not (eval_kept ns n₁ ρ test good grown in-t)) (eval_kept ns n₁ ρ low good grown in-l)
 
 -- the choice, inverted
-pub neither_half : (ns n₁ n₂ : List Node) (test high low one other n-one n-other : ℕ) → Good n₁ → Grown n₁ n₂ → n-one ≡ flip one → n-other ≡ flip other
+pub neither_half : (ns n₁ n₂ : List Node) (test high low one other n_one n_other : ℕ) → Good n₁ → Grown n₁ n₂ → n_one ≡ flip one → n_other ≡ flip other
     → Denotes n₁ one (λ ρ. eval ns ρ test && eval ns ρ high) → Denotes n₂ other (λ ρ. not (eval ns ρ test) && eval ns ρ low)
-    → Is (conj n₂ n-one n-other) (λ ρ. not (choice (λ τ. eval ns τ test) (λ τ. eval ns τ high) (λ τ. eval ns τ low) ρ))
-neither_half ns n₁ n₂ test high low one other n-one n-other good₁ grown is_one is-other d₁ d₂ ρ =
+    → Is (conj n₂ n_one n_other) (λ ρ. not (choice (λ τ. eval ns τ test) (λ τ. eval ns τ high) (λ τ. eval ns τ low) ρ))
+neither_half ns n₁ n₂ test high low one other n_one n_other good₁ grown is_one is-other d₁ d₂ ρ =
     ap₂ ◌&&◌
     (ap (eval n₂ ρ) is_one ∙ eval_flip n₂ ρ one ∙ ap not (eval_kept n₁ n₂ ρ one good₁ grown d₁.inside ∙ d₁.value_is ρ))
     (ap (eval n₂ ρ) is-other ∙ eval_flip n₂ ρ other ∙ ap not (d₂.value_is ρ))

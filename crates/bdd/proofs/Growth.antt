@@ -1,7 +1,7 @@
 -- The nodes that a conjunction adds are parts of it.
 use Rattle.std.proofs.Common.{◌≡◌, ℕ, zero, suc, ◌+◌, ◌-◌, ◌*◌, ◌/◌, ◌%◌, ◌<◌, ◌≤◌, min, Bool, true, false, cond, ◌&&◌, eqb, ltb, ◌⊎◌, List, [], ◌∷◌, ◌++◌, length, sym, refl, ap, ◌∙◌, subst, ap₂, ⊎_elim, arith}
 use mathlib.Core.Path.{fun_ext}
-use Rattle.std.proofs.lemmas.Bool.{cases_eq, cases_lt, eq-eqb, ne_eqb, lt-ltb, le_ltb}
+use Rattle.std.proofs.lemmas.Bool.{cases_eq, cases_lt, eq-eqb, ne_eqb, lt-ltb, le-ltb}
 use Rattle.bdd.specs.declared.store.nodes.Node.{Node}
 use Rattle.bdd.specs.Diagram.{node_at, turned, inverted, value, eval, var_at, top, Good, Grown}
 use Rattle.bdd.specs.Steps.{Cofactor, Made, Both, Short, Parts, Lacking}
@@ -35,7 +35,7 @@ value_fixed ns σ ρ v (suc k) (suc i) good h le =
     let lb = f.low_back in
     let hl = f.high_later in
     let ll = f.low_later in
-    branch_at (fixed σ v ρ) ρ (value k ns (fixed σ v ρ)) n (ap (λ t. cond t (σ n.var) (ρ n.var)) (le_ltb n.var v le))
+    branch_at (fixed σ v ρ) ρ (value k ns (fixed σ v ρ)) n (ap (λ t. cond t (σ n.var) (ρ n.var)) (le-ltb n.var v le))
     ∙ branch_like ρ (value k ns (fixed σ v ρ)) (value k ns ρ) n
     (value_fixed ns σ ρ v k (n.high / 2) good (omega arith) (omega arith))
     (value_fixed ns σ ρ v k (n.low / 2) good (omega arith) (omega arith))

@@ -9,7 +9,7 @@ use Rattle.bdd.proofs.store.Table.compose.Goals as goal
 
 pub cut-requires : goal.cut-requires
 cut-requires c =
-    let x = c.map-diagram.ensures.extends in
+    let x = c.map_diagram.ensures.extends in
     let long : c.len-mark.result ≡ length (nodes_of c.args.self.now) = search rules in
     record { sound = x.sound; within = omega (arith, x.grown.longer) }
 
@@ -26,12 +26,12 @@ returns-then-map-diagram c =
 pub returns : goal.returns
 returns c =
     let ns : List Node = nodes_of c.args.self.now in
-    let x = c.map-diagram.ensures.extends in
+    let x = c.map_diagram.ensures.extends in
     let mark : length ns ≡ c.len-mark.result = search rules in (
       record {
         sound = c.cut.ensures.sound;
-        nodes = c.cut.ensures.nodes ∙ sym (grown_take ns (nodes_of c.map-diagram.new.self) c.len-mark.result mark x.grown);
+        nodes = c.cut.ensures.nodes ∙ sym (grown_take ns (nodes_of c.map_diagram.new.self) c.len-mark.result mark x.grown);
         limit_is = c.cut.ensures.limit ∙ x.limit_is;
       },
-      c.if-map-diagram.ensures.cases,
+      c.if-map_diagram.ensures.cases,
     )

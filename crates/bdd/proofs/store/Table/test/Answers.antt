@@ -2,7 +2,7 @@
 use Rattle.std.proofs.Common.{◌≡◌, ℕ, ◌+◌, Bool, cond, List, [], ◌∷◌, ◌++◌, length, vec_len, sym, refl, ap, ◌∙◌, subst, arith, rules}
 use mathlib.Core.Path.{fun_ext}
 use Rattle.bdd.specs.declared.store.nodes.Node.{Node}
-use Rattle.std.proofs.lemmas.Bool.{eq_eqb, ne_eqb}
+use Rattle.std.proofs.lemmas.Bool.{eq-eqb, ne_eqb}
 use Rattle.bdd.specs.Diagram.{eval}
 use Rattle.bdd.specs.Parts.{PartOf}
 use Rattle.bdd.specs.Sound.{nodes_of}
@@ -25,7 +25,7 @@ returns-then-w-v c =
     record {
       still = record { marks_is = refl; images_is = refl };
       extends = extends_self _ c.args.self.now c.requires.sound;
-      cases = record { inside = c.requires.within; value_is = λ ρ. sym (ap (λ b. cond b (eval ns ρ c.args.g) (ρ c.args.w)) (eq_eqb c.args.w c.args.v c.if-w-v.true)) };
+      cases = record { inside = c.requires.within; value_is = λ ρ. sym (ap (λ b. cond b (eval ns ρ c.args.g) (ρ c.args.w)) (eq-eqb c.args.w c.args.v c.if-w-v.true)) };
     }
 
 pub returns-in-default : goal.returns-in-default
