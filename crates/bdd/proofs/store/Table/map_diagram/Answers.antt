@@ -67,8 +67,8 @@ image-requires c =
       low = child_image ns ms images m f v g i (f / 2) false good x.grown c.requires.g_within c.requires.f_within lt inv.marks mark inv.done;
     }
 
-pub returns-in-default : goal.returns-in-default
-returns-in-default c =
+pub returns-in_default : goal.returns-in_default
+returns-in_default c =
     let t : Table = c.args.self.now in
     let ns : List Node = nodes_of t in
     let f : ℕ = c.args.f in
@@ -85,19 +85,19 @@ returns-in-default c =
     let lt : i < f / 2 = c.loop-i-test.true in
     let long : vec_len u.nodes ≡ length ms = search rules in
     let wide : vec_len u.marks ≡ length (vec_items u.marks) = search rules in
-    let inside : i < length (vec_items u.marks) = omega (arith, x.grown.longer, x.sound.within, x.sound.marks_room, c.requires.f-within) in
+    let inside : i < length (vec_items u.marks) = omega (arith, x.grown.longer, x.sound.within, x.sound.marks_room, c.requires.f_within) in
     let read : c.index.result.now ≡ m i = get_or_read (vec_items u.marks) i c.index.result.now inside c.index.ensures false in
     let S : ((ℕ → Bool) → Bool) → Type 0 = ComposeStep ns f v g in
     let x₀ : Extends S t u = record { sound = x.sound; limit_is = x.limit_is; grown = x.grown; parts = x.parts } in
     let up : m i ≡ true → (φ : (ℕ → Bool) → Bool) → NodeStep ms v g i φ → S φ = λ mark φ s.
-    record { at = i; before = lt; of_diagram = inv.marks.part i lt mark; is = step_kept ns ms v g i good x.grown c.requires.g_within (omega (arith, c.requires.f-within)) φ s } in
+    record { at = i; before = lt; of_diagram = inv.marks.part i lt mark; is = step_kept ns ms v g i good x.grown c.requires.g_within (omega (arith, c.requires.f_within)) φ s } in
     let mark : m i ≡ true = sym read ∙ c.if-index.true in
     let w : Table = c.image.new.self in
     let y : Extends S u w = extends_more (NodeStep ms v g i) S u w (up mark) c.image.ensures.extends in
     record {
       extends = extends_on S t u w x₀ y;
       cases = room_before S t u t.limit good x₀ (room_more (NodeStep ms v g i) S ms t.limit (up mark)
-          (subst (λ k. NoRoom (NodeStep ms v g i) ms k) x₀.limit_is c.in-default.ensures.cases));
+          (subst (λ k. NoRoom (NodeStep ms v g i) ms k) x₀.limit_is c.in_default.ensures.cases));
     }
 
 pub loop-i-preserved : goal.loop-i-preserved

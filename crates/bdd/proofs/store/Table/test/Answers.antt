@@ -28,12 +28,12 @@ returns-then-w-v c =
       cases = record { inside = c.requires.within; value_is = λ ρ. sym (ap (λ b. cond b (eval ns ρ c.args.g) (ρ c.args.w)) (eq-eqb c.args.w c.args.v c.if-w-v.true)) };
     }
 
-pub returns-in-default : goal.returns-in-default
-returns-in-default c =
+pub returns-in_default : goal.returns-in_default
+returns-in_default c =
     let ns : List Node = nodes_of c.args.self.now in
     let w : ℕ = c.args.w in
     let φ : (ℕ → Bool) → Bool = tested ns c.args.v c.args.g w in
-    let out = c.in-default.ensures.cases in
+    let out = c.in_default.ensures.cases in
     let full = out.0 in
     let lack = out.1 in
     let kept = c.mk.ensures.kept in
