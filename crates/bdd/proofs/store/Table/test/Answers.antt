@@ -1,5 +1,5 @@
 -- The test is g, or the diagram of the variable.
-use Rattle.std.proofs.Common.{◌≡◌, ℕ, ◌+◌, Bool, cond, List, [], ◌∷◌, ◌++◌, length, vec_len, sym, refl, ap, ◌∙◌, subst, arith, rules}
+use Rattle.std.proofs.Common.{◌≡◌, ℕ, Bool, cond, List, [], ◌∷◌, ◌++◌, length, vec_len, sym, refl, ap, ◌∙◌, subst, arith, rules}
 use mathlib.Core.Path.{fun_ext}
 use Rattle.bdd.specs.declared.store.nodes.Node.{Node}
 use Rattle.std.proofs.lemmas.Bool.{eq-eqb, ne_eqb}

@@ -1,5 +1,5 @@
 -- The table with one node less is sound, since no entry of the cache counts.
-use Rattle.std.proofs.Common.{◌≡◌, ℕ, ◌+◌, ◌-◌, ◌<◌, List, [], ◌∷◌, ◌++◌, length, set, vec_items, sym, refl, ap, ◌∙◌, subst, arith, length-append, length-set, rules}
+use Rattle.std.proofs.Common.{◌≡◌, ℕ, ◌+◌, ◌<◌, List, [], ◌∷◌, ◌++◌, length, set, vec_items, sym, refl, ap, ◌∙◌, subst, arith, length-append, length-set, rules}
 use Rattle.bdd.specs.declared.store.nodes.Node.{Node}
 use Rattle.bdd.specs.Diagram.{Good, Grown}
 use Rattle.bdd.specs.Index.{bucket_of, LinkedBy}
