@@ -1,9 +1,9 @@
 -- The nodes of a good table are no more than the parts of the functions that they are parts of.
-use Rattle.std.proofs.Common.{◌≡◌, ℕ, suc, ◌+◌, ◌-◌, ◌*◌, ◌/◌, ◌<◌, ◌≤◌, Bool, true, false, cond, not, ◌&&◌, ltb, ◌⊎◌, List, [], ◌∷◌, ◌++◌, length, sym, ap, ◌∙◌, subst, ap₂, inl, inr, ⊎_elim, arith, length-append}
+use Rattle.std.proofs.Common.{◌≡◌, ℕ, suc, ◌+◌, ◌*◌, ◌/◌, ◌<◌, ◌≤◌, Bool, true, false, cond, not, ◌&&◌, ltb, ◌⊎◌, List, [], ◌∷◌, ◌++◌, length, sym, ap, ◌∙◌, subst, ap₂, inl, inr, ⊎_elim, arith, length-append}
 use mathlib.Core.Path.{fun_ext}
 use Rattle.std.proofs.lemmas.Bool.{cases_Bool, cases_lt, cases_eq, cases_order}
 use Rattle.bdd.specs.declared.store.nodes.Node.{Node}
-use Rattle.bdd.specs.Diagram.{child, node, node_at, flip, turned, inverted, eval, var_at, top, Good, Same, Grown}
+use Rattle.bdd.specs.Diagram.{child, node_at, flip, turned, inverted, eval, var_at, top, Good, Same, Grown}
 use Rattle.bdd.specs.Parts.{fixed, PartOf, conj}
 use Rattle.bdd.specs.Size.{Fn, same, opposite, parts, table, all_parts, In, Ascending, Only}
 use Rattle.bdd.specs.Laws.{Held, Inputs, Fitting, TooMany}

@@ -1,9 +1,9 @@
 -- As many nodes are marked as the function has parts.
-use Rattle.std.proofs.Common.{◌≡◌, ℕ, zero, suc, ◌+◌, ◌-◌, ◌*◌, ◌/◌, ◌<◌, ◌≤◌, Bool, true, false, cond, not, ◌||◌, eqb, ◌⊎◌, List, [], ◌∷◌, ◌++◌, length, sym, refl, ap, ◌∙◌, subst, ap₂, inl, inr, ⊎_elim, arith}
+use Rattle.std.proofs.Common.{◌≡◌, ℕ, zero, suc, ◌+◌, ◌-◌, ◌*◌, ◌/◌, ◌<◌, ◌≤◌, Bool, true, false, cond, ◌||◌, eqb, ◌⊎◌, List, [], ◌∷◌, ◌++◌, length, sym, refl, ap, ◌∙◌, subst, ap₂, inl, inr, ⊎_elim, arith}
 use mathlib.Core.Path.{fun_ext}
 use Rattle.std.proofs.lemmas.Bool.{cases_Bool, cases_lt, cases_eq, lt-ltb, le-ltb, eq-eqb, ne_eqb, both_ways, or_left, or_right}
 use Rattle.bdd.specs.declared.store.nodes.Node.{Node}
-use Rattle.bdd.specs.Diagram.{node, node_at, turned, inverted, eval, var_at, top, Good}
+use Rattle.bdd.specs.Diagram.{node_at, turned, inverted, eval, var_at, top, Good}
 use Rattle.bdd.specs.Size.{Fn, one, fork, same, opposite, known, parts, distinct, table, size_of, In, Above, Ascending, Only}
 use Rattle.bdd.specs.Laws.{Inputs}
 use Rattle.bdd.specs.Marking.{bit, tally, Marked, Marks}

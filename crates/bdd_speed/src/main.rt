@@ -1,6 +1,8 @@
 //! How fast a large diagram is built: x1 x(n+1) + x2 x(n+2) + .., a sum whose variables come in a bad order.
 //!
 //! It prints node counts, and with an argument the time that each run took, in microseconds.
+#![tactic(auto)]
+
 ghost use Rattle.std.specs.Prelude.{◌+◌, ◌/◌, ◌<◌, ◌≤◌, length, MatchOption};
 ghost use Rattle.bdd.specs.Sound.{Sound, nodes_of};
 

@@ -38,36 +38,36 @@ returns-in-Some t c =
     let ns : List Node = vec_items c.args.self.now.nodes in
     record { kept = kept_self c.args.self.now c.requires.sound; parts = news_none _ _ ns; cases = c.in-Some.ensures }
 
-pub returns-in-default-conjoin : goal.returns-in-default-conjoin
-returns-in-default-conjoin t c =
+pub returns-in_default-conjoin : goal.returns-in_default-conjoin
+returns-in_default-conjoin t c =
     let ns : List Node = vec_items c.args.self.now.nodes in
     let n₁ : List Node = vec_items c.conjoin.new.self.nodes in
     let v : ℕ = c.min-v.result in
     let f : ℕ = c.args.f in
     let g : ℕ = c.args.g in
-    let fh : ℕ = c.cofactor-f-high.result in
-    let gh : ℕ = c.cofactor-g-high.result in
-    let fl : ℕ = c.cofactor-f-low.result in
-    let gl : ℕ = c.cofactor-g-low.result in
+    let fh : ℕ = c.cofactor-f_high.result in
+    let gh : ℕ = c.cofactor-g_high.result in
+    let fl : ℕ = c.cofactor-f_low.result in
+    let gl : ℕ = c.cofactor-g_low.result in
     let k₁ = c.conjoin.ensures.kept in
     let f_top : c.top.result ≡ top ns f = c.top.ensures in
     let g_top : c.top-2.result ≡ top ns g = c.top-2.ensures in
     let min_is : v ≡ min c.top.result c.top-2.result = c.min-v.ensures in
     let vis : v ≡ min (top ns f) (top ns g) = omega arith in
-    let cases = c.in-default-conjoin.ensures.cases in
-    record { kept = k₁; parts = lift_high ns n₁ f g v fh gh fl gl c.requires.sound.good k₁.sound.good k₁.grown vis c.cofactor-f-high.ensures c.cofactor-g-high.ensures c.cofactor-f-low.ensures c.cofactor-g-low.ensures n₁ c.conjoin.ensures.parts; cases = (cases.0, lacking_high ns n₁ f g v fh gh fl gl c.requires.sound.good k₁.sound.good k₁.grown vis c.cofactor-f-high.ensures c.cofactor-g-high.ensures c.cofactor-f-low.ensures c.cofactor-g-low.ensures cases.1) }
+    let cases = c.in_default-conjoin.ensures.cases in
+    record { kept = k₁; parts = lift_high ns n₁ f g v fh gh fl gl c.requires.sound.good k₁.sound.good k₁.grown vis c.cofactor-f_high.ensures c.cofactor-g_high.ensures c.cofactor-f_low.ensures c.cofactor-g_low.ensures n₁ c.conjoin.ensures.parts; cases = (cases.0, lacking_high ns n₁ f g v fh gh fl gl c.requires.sound.good k₁.sound.good k₁.grown vis c.cofactor-f_high.ensures c.cofactor-g_high.ensures c.cofactor-f_low.ensures c.cofactor-g_low.ensures cases.1) }
 
-pub returns-in-default-conjoin-2 : goal.returns-in-default-conjoin-2
-returns-in-default-conjoin-2 t c =
+pub returns-in_default-conjoin-2 : goal.returns-in_default-conjoin-2
+returns-in_default-conjoin-2 t c =
     let ns : List Node = vec_items c.args.self.now.nodes in
     let n₁ : List Node = vec_items c.conjoin.new.self.nodes in
     let v : ℕ = c.min-v.result in
     let f : ℕ = c.args.f in
     let g : ℕ = c.args.g in
-    let fh : ℕ = c.cofactor-f-high.result in
-    let gh : ℕ = c.cofactor-g-high.result in
-    let fl : ℕ = c.cofactor-f-low.result in
-    let gl : ℕ = c.cofactor-g-low.result in
+    let fh : ℕ = c.cofactor-f_high.result in
+    let gh : ℕ = c.cofactor-g_high.result in
+    let fl : ℕ = c.cofactor-f_low.result in
+    let gl : ℕ = c.cofactor-g_low.result in
     let k₁ = c.conjoin.ensures.kept in
     let f_top : c.top.result ≡ top ns f = c.top.ensures in
     let g_top : c.top-2.result ≡ top ns g = c.top-2.ensures in
@@ -75,11 +75,11 @@ returns-in-default-conjoin-2 t c =
     let vis : v ≡ min (top ns f) (top ns g) = omega arith in
     let n₂ : List Node = vec_items c.conjoin-2.new.self.nodes in
     let k₂ = c.conjoin-2.ensures.kept in
-    let cases = c.in-default-conjoin-2.ensures.cases in
+    let cases = c.in_default-conjoin-2.ensures.cases in
     record {
       kept = kept_on c.args.self.now c.conjoin.new.self c.conjoin-2.new.self k₁ k₂;
-      parts = parts_two ns n₁ f g v fh gh fl gl c.requires.sound.good k₁.sound.good k₁.grown vis c.cofactor-f-high.ensures c.cofactor-g-high.ensures c.cofactor-f-low.ensures c.cofactor-g-low.ensures n₂ k₂.grown c.conjoin.ensures.parts c.conjoin-2.ensures.parts;
-      cases = (cases.0, lacking_low ns n₁ f g v fh gh fl gl c.requires.sound.good k₁.sound.good k₁.grown vis c.cofactor-f-high.ensures c.cofactor-g-high.ensures c.cofactor-f-low.ensures c.cofactor-g-low.ensures n₂ k₂.grown c.conjoin.ensures.parts cases.1);
+      parts = parts_two ns n₁ f g v fh gh fl gl c.requires.sound.good k₁.sound.good k₁.grown vis c.cofactor-f_high.ensures c.cofactor-g_high.ensures c.cofactor-f_low.ensures c.cofactor-g_low.ensures n₂ k₂.grown c.conjoin.ensures.parts c.conjoin-2.ensures.parts;
+      cases = (cases.0, lacking_low ns n₁ f g v fh gh fl gl c.requires.sound.good k₁.sound.good k₁.grown vis c.cofactor-f_high.ensures c.cofactor-g_high.ensures c.cofactor-f_low.ensures c.cofactor-g_low.ensures n₂ k₂.grown c.conjoin.ensures.parts cases.1);
     }
 
 pub mk-requires : goal.mk-requires
@@ -98,23 +98,23 @@ mk-requires t c =
     record {
       sound = k₂.sound;
       bounded = omega (arith, c.min-v.ensures, c.top.ensures);
-      high-within = omega (arith, bh.inside, k₂.grown.longer);
-      low-within = omega (arith, bl.inside);
-      high_later = later_high ns n₁ n₂ v c.cofactor-f-high.result c.cofactor-g-high.result c.in-Some-conjoin.high k₂.grown c.cofactor-f-high.ensures.later c.cofactor-g-high.ensures.later bh;
-      low_later = later_low ns n₁ n₂ v c.cofactor-f-low.result c.cofactor-g-low.result c.in-Some-conjoin-2.low k₁.grown c.cofactor-f-low.ensures.inside c.cofactor-g-low.ensures.inside c.cofactor-f-low.ensures.later c.cofactor-g-low.ensures.later bl;
+      high_within = omega (arith, bh.inside, k₂.grown.longer);
+      low_within = omega (arith, bl.inside);
+      high_later = later_high ns n₁ n₂ v c.cofactor-f_high.result c.cofactor-g_high.result c.in-Some-conjoin.high k₂.grown c.cofactor-f_high.ensures.later c.cofactor-g_high.ensures.later bh;
+      low_later = later_low ns n₁ n₂ v c.cofactor-f_low.result c.cofactor-g_low.result c.in-Some-conjoin-2.low k₁.grown c.cofactor-f_low.ensures.inside c.cofactor-g_low.ensures.inside c.cofactor-f_low.ensures.later c.cofactor-g_low.ensures.later bl;
     }
 
-pub returns-in-default-mk : goal.returns-in-default-mk
-returns-in-default-mk t c =
+pub returns-in_default-mk : goal.returns-in_default-mk
+returns-in_default-mk t c =
     let ns : List Node = vec_items c.args.self.now.nodes in
     let n₁ : List Node = vec_items c.conjoin.new.self.nodes in
     let v : ℕ = c.min-v.result in
     let f : ℕ = c.args.f in
     let g : ℕ = c.args.g in
-    let fh : ℕ = c.cofactor-f-high.result in
-    let gh : ℕ = c.cofactor-g-high.result in
-    let fl : ℕ = c.cofactor-f-low.result in
-    let gl : ℕ = c.cofactor-g-low.result in
+    let fh : ℕ = c.cofactor-f_high.result in
+    let gh : ℕ = c.cofactor-g_high.result in
+    let fl : ℕ = c.cofactor-f_low.result in
+    let gl : ℕ = c.cofactor-g_low.result in
     let k₁ = c.conjoin.ensures.kept in
     let f_top : c.top.result ≡ top ns f = c.top.ensures in
     let g_top : c.top-2.result ≡ top ns g = c.top-2.ensures in
@@ -126,10 +126,10 @@ returns-in-default-mk t c =
     let k₃ = c.mk.ensures.kept in
     let f_in : f / 2 ≤ length ns = search rules in
     let g_in : g / 2 ≤ length ns = search rules in
-    let cases = c.in-default-mk.ensures.cases in
+    let cases = c.in_default-mk.ensures.cases in
     let full : c.mk.new.self ≡ c.conjoin-2.new.self = cases.0.1 in
-    let parts : Parts ns n₂ f g = parts_two ns n₁ f g v fh gh fl gl c.requires.sound.good k₁.sound.good k₁.grown vis c.cofactor-f-high.ensures c.cofactor-g-high.ensures c.cofactor-f-low.ensures c.cofactor-g-low.ensures n₂ k₂.grown c.conjoin.ensures.parts c.conjoin-2.ensures.parts in
-    let lacking = lacking_own ns n₁ f g v fh gh fl gl c.requires.sound.good k₁.sound.good k₁.grown vis c.cofactor-f-high.ensures c.cofactor-g-high.ensures c.cofactor-f-low.ensures c.cofactor-g-low.ensures n₂ c.in-Some-conjoin.high c.in-Some-conjoin-2.low k₂.sound.good k₂.grown f_in g_in c.conjoin.ensures.parts c.conjoin-2.ensures.parts c.in-Some-conjoin.ensures.cases c.in-Some-conjoin-2.ensures.cases cases.1 in
+    let parts : Parts ns n₂ f g = parts_two ns n₁ f g v fh gh fl gl c.requires.sound.good k₁.sound.good k₁.grown vis c.cofactor-f_high.ensures c.cofactor-g_high.ensures c.cofactor-f_low.ensures c.cofactor-g_low.ensures n₂ k₂.grown c.conjoin.ensures.parts c.conjoin-2.ensures.parts in
+    let lacking = lacking_own ns n₁ f g v fh gh fl gl c.requires.sound.good k₁.sound.good k₁.grown vis c.cofactor-f_high.ensures c.cofactor-g_high.ensures c.cofactor-f_low.ensures c.cofactor-g_low.ensures n₂ c.in-Some-conjoin.high c.in-Some-conjoin-2.low k₂.sound.good k₂.grown f_in g_in c.conjoin.ensures.parts c.conjoin-2.ensures.parts c.in-Some-conjoin.ensures.cases c.in-Some-conjoin-2.ensures.cases cases.1 in
     record {
       kept = kept_on c.args.self.now c.conjoin.new.self c.mk.new.self k₁ (kept_on c.conjoin.new.self c.conjoin-2.new.self c.mk.new.self k₂ k₃);
       parts = subst (λ u. Parts ns (vec_items u.nodes) f g) (sym full) parts;
@@ -152,9 +152,9 @@ remember-requires t c =
     let vis : v ≡ min (top ns c.args.f) (top ns c.args.g) = omega arith in
     let kept : Kept c.args.self.now c.mk.new.self = kept_on c.args.self.now c.conjoin.new.self c.mk.new.self k₁ (kept_on c.conjoin.new.self c.conjoin-2.new.self c.mk.new.self k₂ k₃) in
     let both : Both ns n₃ c.args.f c.args.g c.in-Some-mk.result =
-    both_step ns n₁ n₂ n₃ c.args.f c.args.g v c.cofactor-f-high.result c.cofactor-g-high.result c.cofactor-f-low.result c.cofactor-g-low.result c.in-Some-conjoin.high c.in-Some-conjoin-2.low c.in-Some-mk.result
+    both_step ns n₁ n₂ n₃ c.args.f c.args.g v c.cofactor-f_high.result c.cofactor-g_high.result c.cofactor-f_low.result c.cofactor-g_low.result c.in-Some-conjoin.high c.in-Some-conjoin-2.low c.in-Some-mk.result
     c.requires.sound.good k₁.sound.good k₁.grown k₂.grown vis
-    c.cofactor-f-high.ensures c.cofactor-g-high.ensures c.cofactor-f-low.ensures c.cofactor-g-low.ensures
+    c.cofactor-f_high.ensures c.cofactor-g_high.ensures c.cofactor-f_low.ensures c.cofactor-g_low.ensures
     c.in-Some-conjoin.ensures.cases c.in-Some-conjoin-2.ensures.cases c.in-Some-mk.ensures.cases in
     let f_in : c.args.f / 2 ≤ length ns = search rules in
     let g_in : c.args.g / 2 ≤ length ns = search rules in
@@ -167,10 +167,10 @@ returns t c =
     let v : ℕ = c.min-v.result in
     let f : ℕ = c.args.f in
     let g : ℕ = c.args.g in
-    let fh : ℕ = c.cofactor-f-high.result in
-    let gh : ℕ = c.cofactor-g-high.result in
-    let fl : ℕ = c.cofactor-f-low.result in
-    let gl : ℕ = c.cofactor-g-low.result in
+    let fh : ℕ = c.cofactor-f_high.result in
+    let gh : ℕ = c.cofactor-g_high.result in
+    let fl : ℕ = c.cofactor-f_low.result in
+    let gl : ℕ = c.cofactor-g_low.result in
     let k₁ = c.conjoin.ensures.kept in
     let f_top : c.top.result ≡ top ns f = c.top.ensures in
     let g_top : c.top-2.result ≡ top ns g = c.top-2.ensures in
@@ -189,8 +189,8 @@ returns t c =
     let both : Both ns n₃ f g c.in-Some-mk.result =
     both_step ns n₁ n₂ n₃ f g v fh gh fl gl c.in-Some-conjoin.high c.in-Some-conjoin-2.low c.in-Some-mk.result
     c.requires.sound.good k₁.sound.good k₁.grown k₂.grown vis
-    c.cofactor-f-high.ensures c.cofactor-g-high.ensures c.cofactor-f-low.ensures c.cofactor-g-low.ensures bh bl made in
-    let parts : Parts ns n₃ f g = parts_three ns n₁ f g v fh gh fl gl c.requires.sound.good k₁.sound.good k₁.grown vis c.cofactor-f-high.ensures c.cofactor-g-high.ensures c.cofactor-f-low.ensures c.cofactor-g-low.ensures n₂ n₃ c.in-Some-conjoin.high c.in-Some-conjoin-2.low c.in-Some-mk.result k₂.sound.good k₂.grown k₃.grown f_in g_in c.conjoin.ensures.parts c.conjoin-2.ensures.parts bh bl made in
+    c.cofactor-f_high.ensures c.cofactor-g_high.ensures c.cofactor-f_low.ensures c.cofactor-g_low.ensures bh bl made in
+    let parts : Parts ns n₃ f g = parts_three ns n₁ f g v fh gh fl gl c.requires.sound.good k₁.sound.good k₁.grown vis c.cofactor-f_high.ensures c.cofactor-g_high.ensures c.cofactor-f_low.ensures c.cofactor-g_low.ensures n₂ n₃ c.in-Some-conjoin.high c.in-Some-conjoin-2.low c.in-Some-mk.result k₂.sound.good k₂.grown k₃.grown f_in g_in c.conjoin.ensures.parts c.conjoin-2.ensures.parts bh bl made in
     record {
       kept = kept_on c.args.self.now c.mk.new.self c.remember.new.self kept c.remember.ensures.kept;
       parts = subst (λ x. Parts ns (vec_items x) f g) (sym c.remember.ensures.nodes) parts;

@@ -13,12 +13,12 @@ cut-requires c =
     let long : c.len-mark.result ≡ length (nodes_of c.args.self.now) = search rules in
     record { sound = k.sound; within = omega (arith, k.grown.longer) }
 
-pub returns-in-default : goal.returns-in-default
-returns-in-default c =
+pub returns-in_default : goal.returns-in_default
+returns-in_default c =
     let ns : List Node = nodes_of c.args.self.now in
     let ms : List Node = nodes_of c.conjoin.new.self in
     let k = c.conjoin.ensures.kept in
-    let out = c.in-default.ensures.cases in
+    let out = c.in_default.ensures.cases in
     let lack = out.1 in
     let full = out.0 in
     let mark : length ns ≡ c.len-mark.result = search rules in

@@ -10,8 +10,8 @@ use Rattle.bdd.specs.Composing.{Is, Denotes, Extends, choice, ChoiceStep}
 use Rattle.bdd.proofs.Composing.{room_refused, room_before, extends_more, extends_on, still_on, denotes_is, half_is, neither_half, turned_over}
 use Rattle.bdd.proofs.store.Table.choose.Goals as goal
 
-pub returns-in-default : goal.returns-in-default
-returns-in-default c =
+pub returns-in_default : goal.returns-in_default
+returns-in_default c =
     let t : Table = c.args.self.now in
     let ns : List Node = nodes_of t in
     let good = c.requires.sound.good in
@@ -25,11 +25,11 @@ returns-in-default c =
     record {
       still = c.meet.ensures.still;
       extends = x₁;
-      cases = room_refused S ns t.limit (conj ns c.args.test c.args.high) (inl (λ ρ. refl)) c.in-default.ensures.cases;
+      cases = room_refused S ns t.limit (conj ns c.args.test c.args.high) (inl (λ ρ. refl)) c.in_default.ensures.cases;
     }
 
-pub returns-in-default-meet : goal.returns-in-default-meet
-returns-in-default-meet c =
+pub returns-in_default-meet : goal.returns-in_default-meet
+returns-in_default-meet c =
     let t : Table = c.args.self.now in
     let ns : List Node = nodes_of t in
     let good = c.requires.sound.good in
@@ -43,7 +43,7 @@ returns-in-default-meet c =
     let t₂ : Table = c.meet-2.new.self in
     let n₂ : List Node = nodes_of t₂ in
     let nt : ℕ = c.inverse.result in
-    let is₂ : Is (conj n₁ nt c.args.low) (λ ρ. not (T ρ) && L ρ) = half_is ns n₁ c.args.test c.args.low nt good x₁.grown c.requires.test-within c.requires.low-within c.inverse.ensures.value in
+    let is₂ : Is (conj n₁ nt c.args.low) (λ ρ. not (T ρ) && L ρ) = half_is ns n₁ c.args.test c.args.low nt good x₁.grown c.requires.test_within c.requires.low_within c.inverse.ensures.value in
     let x₂ : Extends S t₁ t₂ = extends_more (λ φ. Is φ (conj n₁ nt c.args.low)) S t₁ t₂ (λ φ i. inr (inl (λ ρ. i ρ ∙ is₂ ρ))) c.meet-2.ensures.extends in
     let x₁₂ : Extends S t t₂ = extends_on S t t₁ t₂ x₁ x₂ in
     let s₁₂ = still_on t t₁ t₂ c.meet.ensures.still c.meet-2.ensures.still in
@@ -51,11 +51,11 @@ returns-in-default-meet c =
       still = s₁₂;
       extends = x₁₂;
       cases = room_before S t t₁ t.limit good x₁ (room_refused S n₁ t.limit (conj n₁ nt c.args.low) (inr (inl is₂))
-          (subst (λ k. TooMany n₁ k (conj n₁ nt c.args.low)) x₁.limit_is c.in-default-meet.ensures.cases));
+          (subst (λ k. TooMany n₁ k (conj n₁ nt c.args.low)) x₁.limit_is c.in_default-meet.ensures.cases));
     }
 
-pub returns-in-default-meet-2 : goal.returns-in-default-meet-2
-returns-in-default-meet-2 c =
+pub returns-in_default-meet-2 : goal.returns-in_default-meet-2
+returns-in_default-meet-2 c =
     let t : Table = c.args.self.now in
     let ns : List Node = nodes_of t in
     let good = c.requires.sound.good in
@@ -69,7 +69,7 @@ returns-in-default-meet-2 c =
     let t₂ : Table = c.meet-2.new.self in
     let n₂ : List Node = nodes_of t₂ in
     let nt : ℕ = c.inverse.result in
-    let is₂ : Is (conj n₁ nt c.args.low) (λ ρ. not (T ρ) && L ρ) = half_is ns n₁ c.args.test c.args.low nt good x₁.grown c.requires.test-within c.requires.low-within c.inverse.ensures.value in
+    let is₂ : Is (conj n₁ nt c.args.low) (λ ρ. not (T ρ) && L ρ) = half_is ns n₁ c.args.test c.args.low nt good x₁.grown c.requires.test_within c.requires.low_within c.inverse.ensures.value in
     let x₂ : Extends S t₁ t₂ = extends_more (λ φ. Is φ (conj n₁ nt c.args.low)) S t₁ t₂ (λ φ i. inr (inl (λ ρ. i ρ ∙ is₂ ρ))) c.meet-2.ensures.extends in
     let x₁₂ : Extends S t t₂ = extends_on S t t₁ t₂ x₁ x₂ in
     let s₁₂ = still_on t t₁ t₂ c.meet.ensures.still c.meet-2.ensures.still in
@@ -88,7 +88,7 @@ returns-in-default-meet-2 c =
       still = s;
       extends = x;
       cases = room_before S t t₂ t.limit good x₁₂ (room_refused S n₂ t.limit φ₃ (inr (inr is₃))
-          (subst (λ k. TooMany n₂ k φ₃) x₁₂.limit_is c.in-default-meet-2.ensures.cases));
+          (subst (λ k. TooMany n₂ k φ₃) x₁₂.limit_is c.in_default-meet-2.ensures.cases));
     }
 
 pub returns : goal.returns
@@ -106,7 +106,7 @@ returns c =
     let t₂ : Table = c.meet-2.new.self in
     let n₂ : List Node = nodes_of t₂ in
     let nt : ℕ = c.inverse.result in
-    let is₂ : Is (conj n₁ nt c.args.low) (λ ρ. not (T ρ) && L ρ) = half_is ns n₁ c.args.test c.args.low nt good x₁.grown c.requires.test-within c.requires.low-within c.inverse.ensures.value in
+    let is₂ : Is (conj n₁ nt c.args.low) (λ ρ. not (T ρ) && L ρ) = half_is ns n₁ c.args.test c.args.low nt good x₁.grown c.requires.test_within c.requires.low_within c.inverse.ensures.value in
     let x₂ : Extends S t₁ t₂ = extends_more (λ φ. Is φ (conj n₁ nt c.args.low)) S t₁ t₂ (λ φ i. inr (inl (λ ρ. i ρ ∙ is₂ ρ))) c.meet-2.ensures.extends in
     let x₁₂ : Extends S t t₂ = extends_on S t t₁ t₂ x₁ x₂ in
     let s₁₂ = still_on t t₁ t₂ c.meet.ensures.still c.meet-2.ensures.still in

@@ -29,8 +29,8 @@ returns-then-n-v c =
       cases = past_denotes ns v g i good c.requires.inside (subst (λ x. v < x.var) read c.if-n-v.true);
     }
 
-pub returns-in-default : goal.returns-in-default
-returns-in-default c =
+pub returns-in_default : goal.returns-in_default
+returns-in_default c =
     let t : Table = c.args.self.now in
     let ns : List Node = nodes_of t in
     let i : ℕ = c.args.i in
@@ -49,11 +49,11 @@ returns-in-default c =
     record {
       still = c.test.ensures.still;
       extends = x₁;
-      cases = room_refused S ns t.limit φ₁ (inl own) c.in-default.ensures.cases;
+      cases = room_refused S ns t.limit φ₁ (inl own) c.in_default.ensures.cases;
     }
 
-pub returns-in-default-choose : goal.returns-in-default-choose
-returns-in-default-choose c =
+pub returns-in_default-choose : goal.returns-in_default-choose
+returns-in_default-choose c =
     let t : Table = c.args.self.now in
     let ns : List Node = nodes_of t in
     let i : ℕ = c.args.i in
@@ -89,7 +89,7 @@ returns-in-default-choose c =
       still = still_on t t₁ t₂ c.test.ensures.still c.choose.ensures.still;
       extends = extends_on S t t₁ t₂ x₁ x₂;
       cases = room_before S t t₁ t.limit good x₁ (room_more (ChoiceStep T H L) S n₁ t.limit up
-          (subst (λ k. NoRoom (ChoiceStep T H L) n₁ k) x₁.limit_is c.in-default-choose.ensures.cases));
+          (subst (λ k. NoRoom (ChoiceStep T H L) n₁ k) x₁.limit_is c.in_default-choose.ensures.cases));
     }
 
 pub returns : goal.returns

@@ -20,12 +20,12 @@ extends_of t u f g k p = record {
   parts = λ i a b. record { step = conj (nodes_of t) f g; is_step = λ ρ. refl; part = p.part i a b };
 }
 
-pub returns-in-default : goal.returns-in-default
-returns-in-default c =
+pub returns-in_default : goal.returns-in_default
+returns-in_default c =
     let ns : List Node = nodes_of c.args.self.now in
     let ms : List Node = nodes_of c.conjoin.new.self in
     let k = c.conjoin.ensures.kept in
-    let out = c.in-default.ensures.cases in
+    let out = c.in_default.ensures.cases in
     let lack = out.1 in
     let full = out.0 in
     let long : vec_len c.conjoin.new.self.nodes ≡ length ms = search rules in

@@ -45,15 +45,15 @@ returns c =
     made_flipped ns ms v h l e (made_straight ns ms v (flip h) (flip l) e c.requires.sound.good kept.sound.good kept.grown (omega (arith, flip_half h)) (omega (arith, flip_half l)) placed) in
     record { kept = kept; cases = subst (Made ns ms v h l) (sym c.inverse-3.ensures.value) made }
 
-pub returns-in-default : goal.returns-in-default
-returns-in-default c =
+pub returns-in_default : goal.returns-in_default
+returns-in_default c =
     let ns : List Node = vec_items c.args.self.now.nodes in
     let v : ℕ = c.args.var in
     let h : ℕ = c.args.high in
     let l : ℕ = c.args.low in
     let hin : h / 2 ≤ length ns = search rules in
     let lin : l / 2 ≤ length ns = search rules in
-    let cases = c.in-default.ensures.cases in
+    let cases = c.in_default.ensures.cases in
     let lacks : Lacks ns (node v (flip h) (flip l)) =
     subst (λ x. Lacks ns (node v x (flip l))) c.inverse.ensures.value
     (subst (λ x. Lacks ns (node v c.inverse.result x)) c.inverse-2.ensures.value cases.1) in

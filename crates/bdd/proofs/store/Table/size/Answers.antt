@@ -10,7 +10,7 @@ pub returns : goal.returns
 returns c =
     let s = c.requires.sound in
     let e : ℕ = c.args.e in
-    let r : ℕ = c.diagram-size.result in
+    let r : ℕ = c.diagram_size.result in
     let P : List Node → Type 0 = λ ns. (vs : List ℕ) → Ascending vs → Inputs ns vs → r ≡ size_of vs (λ ρ. eval ns ρ e) in
     record {
       same = record {
@@ -30,5 +30,5 @@ returns c =
         nodes = refl;
         limit_is = refl;
       };
-      size = subst P c.deref.ensures.value c.diagram-size.ensures;
+      size = subst P c.deref.ensures.value c.diagram_size.ensures;
     }

@@ -1,5 +1,5 @@
 -- The test is g, or the diagram of the variable.
-use Rattle.std.proofs.Common.{◌≡◌, ℕ, ◌+◌, Bool, cond, List, [], ◌∷◌, ◌++◌, length, vec_len, sym, refl, ap, ◌∙◌, subst, arith, rules}
+use Rattle.std.proofs.Common.{◌≡◌, ℕ, Bool, cond, List, [], ◌∷◌, ◌++◌, length, vec_len, sym, refl, ap, ◌∙◌, subst, arith, rules}
 use mathlib.Core.Path.{fun_ext}
 use Rattle.bdd.specs.declared.store.nodes.Node.{Node}
 use Rattle.std.proofs.lemmas.Bool.{eq-eqb, ne_eqb}
@@ -28,12 +28,12 @@ returns-then-w-v c =
       cases = record { inside = c.requires.within; value_is = λ ρ. sym (ap (λ b. cond b (eval ns ρ c.args.g) (ρ c.args.w)) (eq-eqb c.args.w c.args.v c.if-w-v.true)) };
     }
 
-pub returns-in-default : goal.returns-in-default
-returns-in-default c =
+pub returns-in_default : goal.returns-in_default
+returns-in_default c =
     let ns : List Node = nodes_of c.args.self.now in
     let w : ℕ = c.args.w in
     let φ : (ℕ → Bool) → Bool = tested ns c.args.v c.args.g w in
-    let out = c.in-default.ensures.cases in
+    let out = c.in_default.ensures.cases in
     let full = out.0 in
     let lack = out.1 in
     let kept = c.mk.ensures.kept in

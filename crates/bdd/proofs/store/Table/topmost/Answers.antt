@@ -9,7 +9,7 @@ pub returns : goal.returns
 returns c =
     let s = c.requires.sound in
     let e : ℕ = c.args.e in
-    let P : List Node → Type 0 = λ ns. MatchOption c.topmost-of.result ((u : ℕ) → c.args.bound < u → Ignores (λ ρ. eval ns ρ e) u) (λ v. Topmost (λ ρ. eval ns ρ e) c.args.bound v) in
+    let P : List Node → Type 0 = λ ns. MatchOption c.topmost_of.result ((u : ℕ) → c.args.bound < u → Ignores (λ ρ. eval ns ρ e) u) (λ v. Topmost (λ ρ. eval ns ρ e) c.args.bound v) in
     record {
       same = record {
         sound = record {
@@ -28,5 +28,5 @@ returns c =
         nodes = refl;
         limit_is = refl;
       };
-      cases = subst P c.deref.ensures.value c.topmost-of.ensures;
+      cases = subst P c.deref.ensures.value c.topmost_of.ensures;
     }

@@ -1,5 +1,5 @@
 -- The table with one node less is sound, since no entry of the cache counts.
-use Rattle.std.proofs.Common.{◌≡◌, ℕ, ◌+◌, ◌-◌, ◌<◌, List, [], ◌∷◌, ◌++◌, length, set, vec_items, sym, refl, ap, ◌∙◌, subst, arith, length-append, length-set, rules}
+use Rattle.std.proofs.Common.{◌≡◌, ℕ, ◌+◌, ◌<◌, List, [], ◌∷◌, ◌++◌, length, set, vec_items, sym, refl, ap, ◌∙◌, subst, arith, length-append, length-set, rules}
 use Rattle.bdd.specs.declared.store.nodes.Node.{Node}
 use Rattle.bdd.specs.Diagram.{Good, Grown}
 use Rattle.bdd.specs.Index.{bucket_of, LinkedBy}
@@ -10,15 +10,15 @@ use Rattle.bdd.proofs.store.Table.unlink.Goals as goal
 pub returns : goal.returns
 returns c =
     let ms : List Node = vec_items c.args.self.now.nodes in
-    let ns : List Node = vec_items c.take-last-n.new.self in
-    let nx : List ℕ = vec_items c.take-last-before.new.self in
+    let ns : List Node = vec_items c.take_last-n.new.self in
+    let nx : List ℕ = vec_items c.take_last-before.new.self in
     let hs : List ℕ = vec_items c.args.self.now.heads in
-    let n : Node = c.take-last-n.result in
-    let x : ℕ = c.take-last-before.result in
+    let n : Node = c.take_last-n.result in
+    let x : ℕ = c.take_last-before.result in
     let s = c.requires.sound in
     let m : ℕ = length hs in
-    let items : ms ≡ ns ++ n ∷ [] = c.take-last-n.ensures.items in
-    let next_items : vec_items c.args.self.now.next ≡ nx ++ x ∷ [] = c.take-last-before.ensures.items in
+    let items : ms ≡ ns ++ n ∷ [] = c.take_last-n.ensures.items in
+    let next_items : vec_items c.args.self.now.next ≡ nx ++ x ∷ [] = c.take_last-before.ensures.items in
     let wide : c.len.result ≡ m = search rules in
     let b : ℕ = c.bucket-b.result in
     let bis : b ≡ bucket_of m n = c.bucket-b.ensures.0 ∙ ap (λ k. bucket_of k n) wide in
@@ -30,7 +30,7 @@ returns c =
     let popped = linked_pop m ns nx hs n x l nl (subst (λ k. k < m) bis blt) in
     let linked : LinkedBy m ns nx (set hs b x) = subst (λ k. LinkedBy m ns nx (set hs k x)) (sym bis) popped in
     let new_wide : m ≡ length (set hs b x) = sym (length-set hs b x) in
-    let len = c.take-last-n.ensures.len in
+    let len = c.take_last-n.ensures.len in
     record {
       sound = record {
         good = good_pop ns n (subst Good items s.good);
@@ -39,8 +39,8 @@ returns c =
         stamped = s.stamped;
         cached = λ k h now-is. absurd (omega (arith, c.requires.forgotten k h));
         within = omega (arith, s.within);
-        room = omega (arith, c.take-last-n.ensures.capacity, s.room);
-        next_room = omega (arith, c.take-last-before.ensures.capacity, s.next_room);
+        room = omega (arith, c.take_last-n.ensures.capacity, s.room);
+        next_room = omega (arith, c.take_last-before.ensures.capacity, s.next_room);
         marks_room = s.marks_room;
         images_room = s.images_room;
         small = s.small;

@@ -7,10 +7,10 @@ use Rattle.bdd.proofs.Variables.{variable_value, variable_parts}
 use Rattle.bdd.proofs.Counting.{refusal}
 use Rattle.bdd.proofs.store.Table.variable.Goals as goal
 
-pub returns-in-default : goal.returns-in-default
-returns-in-default c =
+pub returns-in_default : goal.returns-in_default
+returns-in_default c =
     let ns : List Node = nodes_of c.args.self.now in
-    let out = c.in-default.ensures.cases in
+    let out = c.in_default.ensures.cases in
     let full = out.0 in
     let lack = out.1 in
     let kept = c.mk.ensures.kept in

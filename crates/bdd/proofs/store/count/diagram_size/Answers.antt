@@ -6,4 +6,4 @@ use Rattle.bdd.proofs.store.count.diagram_size.Goals as goal
 
 pub returns : goal.returns
 returns c = λ vs asc vars.
-    c.count-marks.ensures ∙ sizing c.args.nodes.now vs c.args.e (c.args.e / 2) (at c.mark-diagram.new.marks) c.requires.good asc vars (omega arith) c.requires.within c.mark-diagram.ensures
+    c.count_marks.ensures ∙ sizing c.args.nodes.now vs c.args.e (c.args.e / 2) (at c.mark_diagram.new.marks) c.requires.good asc vars (omega arith) c.requires.within c.mark_diagram.ensures

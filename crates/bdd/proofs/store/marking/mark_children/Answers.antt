@@ -14,4 +14,4 @@ mark-requires-2 c =
     let ns : List Node = c.args.nodes.now in
     let lt = c.requires.inside in
     let long : length c.mark.new.marks ≡ length c.args.marks.now = search rules in
-    omega (arith, (c.requires.good.fits c.args.i lt).low_back, c.requires.room)
+    omega (arith, (c.requires.good.fits c.args.i lt).low_back, (c.requires.good.fits c.args.i lt).high_back, c.requires.room)

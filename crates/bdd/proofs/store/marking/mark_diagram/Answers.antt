@@ -13,7 +13,7 @@ pub loop-i-preserved-then-marks-i : goal.loop-i-preserved-then-marks-i
 loop-i-preserved-then-marks-i c =
     let room : c.args.e / 2 ≤ length c.loop-i.marks = search rules in (
       omega (arith, c.loop-i.invariant.0),
-      turn_marked c.args.nodes.now c.args.e (c.args.e / 2) c.loop-i.i c.loop-i.marks c.mark-children.new.marks c.requires.good c.requires.within room c.loop-i-test.true c.loop-i.invariant.0 c.loop-i.invariant.1 c.if-marks-i.true c.mark-children.ensures,
+      turn_marked c.args.nodes.now c.args.e (c.args.e / 2) c.loop-i.i c.loop-i.marks c.mark_children.new.marks c.requires.good c.requires.within room c.loop-i-test.true c.loop-i.invariant.0 c.loop-i.invariant.1 c.if-marks-i.true c.mark_children.ensures,
     )
 
 pub loop-i-preserved : goal.loop-i-preserved

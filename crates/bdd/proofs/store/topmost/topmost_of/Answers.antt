@@ -4,8 +4,8 @@ use Rattle.bdd.specs.Marking.{at}
 use Rattle.bdd.proofs.Reading.{topmost_none, topmost_some}
 use Rattle.bdd.proofs.store.topmost.topmost_of.Goals as goal
 
-pub returns-then-least-eq-NO-VAR : goal.returns-then-least-eq-NO-VAR
-returns-then-least-eq-NO-VAR c = topmost_none c.args.nodes.now c.args.e (c.args.e / 2) (at c.mark-diagram.new.marks) c.requires.good c.requires.within c.mark-diagram.ensures c.args.bound c.least-above-least.result (omega arith) c.least-above-least.ensures (omega (arith, c.if-least-eq-NO-VAR.true))
+pub returns-then-least-eq-NO_VAR : goal.returns-then-least-eq-NO_VAR
+returns-then-least-eq-NO_VAR c = topmost_none c.args.nodes.now c.args.e (c.args.e / 2) (at c.mark_diagram.new.marks) c.requires.good c.requires.within c.mark_diagram.ensures c.args.bound c.least_above-least.result (omega arith) c.least_above-least.ensures (omega (arith, c.if-least-eq-NO_VAR.true))
 
 pub returns : goal.returns
-returns c = topmost_some c.args.nodes.now c.args.e (c.args.e / 2) (at c.mark-diagram.new.marks) c.requires.good c.requires.within c.mark-diagram.ensures c.args.bound c.least-above-least.result (omega arith) c.least-above-least.ensures c.if-least-eq-NO-VAR.false
+returns c = topmost_some c.args.nodes.now c.args.e (c.args.e / 2) (at c.mark_diagram.new.marks) c.requires.good c.requires.within c.mark_diagram.ensures c.args.bound c.least_above-least.result (omega arith) c.least_above-least.ensures c.if-least-eq-NO_VAR.false
