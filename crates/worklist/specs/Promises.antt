@@ -85,7 +85,7 @@ module _ {X : Type 0} where
   put_itself : (room : ℕ) (xs : List X) (x : X) (r : Bool) (ys : List X) → Put room xs x r ys → Put room xs x r ys
   put_itself room xs x r ys h = h
 
-  module _ (R : X → X → Ordering → Type 0) where
+  module _ (R : X → X → Ordering) where
     took_least : (xs : List X) (r : Option X) (ys : List X) → TookLeast R xs r ys → Took xs r ys
     took_least xs None ys h = h
     took_least xs (Some x) ys h = h.0
