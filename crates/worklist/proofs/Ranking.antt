@@ -1,5 +1,5 @@
 -- The orders of the two item types: what `cmp` answers is the order of the fields in turn, which is total.
-use Rattle.std.proofs.Common.{◌≡◌, ℕ, ◌<◌, Bool, true, false, ◌⊎◌, List, [], ◌∷◌, Some, None, Option, Ordering, Less, Equal, Greater, sym, refl, ap, ◌∙◌, subst, inl, inr, true≢false, arith}
+use Rattle.std.proofs.Common.{◌≡◌, ℕ, ◌<◌, false, ◌⊎◌, List, [], ◌∷◌, Some, None, Option, Ordering, Less, Equal, Greater, sym, ap, ◌∙◌, subst, inl, inr, true≢false, arith}
 use Rattle.std.specs.Cmp.{IsTotalOrder, ranks}
 use Rattle.std.specs.Ordering.{is_lt, is_gt, ordering_then, MatchOrdering, nat_cmp}
 use Rattle.std.proofs.lemmas.Map.Lookups.{CmpEqualImpliesEq}
@@ -7,7 +7,7 @@ use Rattle.worklist.specs.Bags.{Put}
 use Rattle.worklist.specs.Calls.{Call, put, take}
 use Rattle.worklist.specs.Laws.{EachTake, Repeats}
 use Rattle.worklist.specs.Orders.{Least, NoLower, TookLeast}
-use Rattle.worklist.specs.Items.{Below, Before, Earlier, Foremost, TookForemost, TotalOrder, Ordered, ByPropagation, ByResubstitution, propagations, resubstitutions}
+use Rattle.worklist.specs.Items.{Below, Before, Earlier, Foremost, TookForemost, Ordered, ByPropagation, ByResubstitution, propagations, resubstitutions}
 use Rattle.worklist.specs.declared.items.Propagation.{Propagation}
 use Rattle.worklist.specs.declared.items.Resubstitution.{Resubstitution}
 use Rattle.worklist.proofs.Repeating.{heaps}
