@@ -3,7 +3,7 @@ use Rattle.std.specs.Prelude.{◌≡◌, ℕ, ◌<◌, ◌⊎◌, List, Some, No
 use Rattle.std.specs.declared.cmp.Ordering.{Ordering}
 use Rattle.std.specs.Cmp.{IsTotalOrder, ranks, nat_cmp_total, on_total, then_total}
 use Rattle.std.specs.Ordering.{MatchOrdering, nat_cmp, ordering_then}
-use Rattle.std.specs.List.{AllByRecursion as All}
+use Rattle.std.specs.List.{AllByRecursion}
 use Rattle.worklist.specs.Bags.{Took}
 use Rattle.worklist.specs.Calls.{Call}
 use Rattle.worklist.specs.Laws.{EachTake, LeastFirst}
@@ -24,7 +24,7 @@ Earlier x y = Below x.size x.side x.serial y.size y.side y.serial
 
 -- x is before each of xs, or is that item
 abbrev pub Foremost : {X : Type 0} → (X → X → Type 0) → X → List X → Type 0
-Foremost B x xs = All (λ y. (x ≡ y) ⊎ B x y) xs
+Foremost B x xs = AllByRecursion (λ y. (x ≡ y) ⊎ B x y) xs
 
 -- a take of a foremost item
 abbrev pub TookForemost : {X : Type 0} → (X → X → Type 0) → List X → Option X → List X → Type 0
