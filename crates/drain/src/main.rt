@@ -1,6 +1,8 @@
 //! Runs both work lists through thousands of puts and takes, made by a small generator, and compares each answer
 //! with what a plain list of the waiting items says.
 
+#![tactic(auto)]
+
 mod generator;
 mod model;
 

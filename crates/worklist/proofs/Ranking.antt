@@ -1,13 +1,13 @@
 -- The orders of the two item types: what `cmp` answers is the order of the fields in turn, which is total.
-use Rattle.std.proofs.Common.{◌≡◌, ℕ, ◌<◌, Bool, true, false, ◌⊎◌, List, [], ◌∷◌, Some, None, Option, Ordering, Less, Equal, Greater, sym, refl, ap, ◌∙◌, subst, inl, inr, true≢false, arith}
+use Rattle.std.proofs.Common.{◌≡◌, ℕ, ◌<◌, false, ◌⊎◌, List, [], ◌∷◌, Some, None, Option, Ordering, Less, Equal, Greater, sym, ap, ◌∙◌, subst, inl, inr, true≢false, arith}
 use Rattle.std.specs.Cmp.{IsTotalOrder, ranks}
 use Rattle.std.specs.Ordering.{is_lt, is_gt, ordering_then, MatchOrdering, nat_cmp}
-use Rattle.std.specs.BTreeMap.AsLists.{CmpEqualImpliesEq}
+use Rattle.std.proofs.lemmas.Map.Lookups.{CmpEqualImpliesEq}
 use Rattle.worklist.specs.Bags.{Put}
 use Rattle.worklist.specs.Calls.{Call, put, take}
 use Rattle.worklist.specs.Laws.{EachTake, Repeats}
 use Rattle.worklist.specs.Orders.{Least, NoLower, TookLeast}
-use Rattle.worklist.specs.Items.{Below, Before, Earlier, Foremost, TookForemost, TotalOrder, Ordered, ByPropagation, ByResubstitution, propagations, resubstitutions}
+use Rattle.worklist.specs.Items.{Below, Before, Earlier, Foremost, TookForemost, Ordered, ByPropagation, ByResubstitution, propagations, resubstitutions}
 use Rattle.worklist.specs.declared.items.Propagation.{Propagation}
 use Rattle.worklist.specs.declared.items.Resubstitution.{Resubstitution}
 use Rattle.worklist.proofs.Repeating.{heaps}
@@ -63,11 +63,11 @@ by_same L E F G Less f h = h
 by_same L E F G Equal f h = f h
 by_same L E F G Greater f h = h
 
-pub by_propagation : (x y : Propagation) → MatchOrdering (propagations.cmp x y) (Before x y) (x ≡ y) (Before y x)
-by_propagation x y = by_same (Before x y) _ (x ≡ y) (Before y x) (propagations.cmp x y) (same_propagation x y) (three x.size x.vertex x.level y.size y.vertex y.level)
+pub by_propagation : (x y : Propagation) → MatchOrdering (ByPropagation x y) (Before x y) (x ≡ y) (Before y x)
+by_propagation x y = by_same (Before x y) _ (x ≡ y) (Before y x) (ByPropagation x y) (same_propagation x y) (three x.size x.vertex x.level y.size y.vertex y.level)
 
-pub by_resubstitution : (x y : Resubstitution) → MatchOrdering (resubstitutions.cmp x y) (Earlier x y) (x ≡ y) (Earlier y x)
-by_resubstitution x y = by_same (Earlier x y) _ (x ≡ y) (Earlier y x) (resubstitutions.cmp x y) (same_resubstitution x y) (three x.size x.side x.serial y.size y.side y.serial)
+pub by_resubstitution : (x y : Resubstitution) → MatchOrdering (ByResubstitution x y) (Earlier x y) (x ≡ y) (Earlier y x)
+by_resubstitution x y = by_same (Earlier x y) _ (x ≡ y) (Earlier y x) (ByResubstitution x y) (same_resubstitution x y) (three x.size x.side x.serial y.size y.side y.serial)
 
 -- ---- an order by B, read off `cmp`
 
@@ -115,7 +115,7 @@ module _ {X : Type 0} {R : X → X → Ordering} (o : IsTotalOrder R) (B : X →
   ordered : ((x : X) → B x x → ⊥) → ((x y z : X) → B x y → B y z → B x z) → Ordered R B
   ordered irreflexive transitive = record {
     total = record { never_itself = irreflexive; onward = transitive; either = λ x y. which (B x y) (x ≡ y) (B y x) (R x y) (is x y) };
-    compares = λ x y r h. subst (λ k. MatchOrdering k (B x y) (x ≡ y) (B y x)) (sym h) (is x y);
+    compares = λ x y r h. subst (λ k. MatchOrdering k (B x y) (x ≡ y) (B y x)) h (is x y);
     leads = λ calls waiting h. each_weaker (NoLower R) (Foremost B) (λ x xs low. all_after x xs (low o)) calls h;
   }
 

@@ -1,10 +1,8 @@
 -- Two lists that are asked alike answer alike: heaps whose items of equal rank are the same item, and rings.
-use Rattle.std.proofs.Common.{◌≡◌, ℕ, ◌<◌, Bool, true, false, List, [], ◌∷◌, ◌++◌, length, Some, None, Option, Ordering, Equal, sym, refl, ap, ◌∙◌, subst, arith}
+use Rattle.std.proofs.Common.{◌≡◌, ℕ, ◌<◌, true, false, List, [], ◌∷◌, ◌++◌, length, Some, None, Option, Ordering, Equal, sym, refl, ap, ◌∙◌, subst, arith}
 use Rattle.std.specs.Cmp.{IsTotalOrder}
-use Rattle.std.specs.BTreeMap.AsLists.{CmpEqualImpliesEq}
-use Rattle.worklist.specs.Bags.{Put}
+use Rattle.std.proofs.lemmas.Map.Lookups.{CmpEqualImpliesEq}
 use Rattle.worklist.specs.Queues.{Queued, Oldest}
-use Rattle.worklist.specs.Orders.{TookLeast}
 use Rattle.worklist.specs.Calls.{Call, put, take, Run, started, puts, takes}
 use Rattle.worklist.specs.Laws.{asked, Asked, Answered, Repeats, HeapsRepeat}
 use Rattle.worklist.proofs.Ties.{self, by_rank}
@@ -59,7 +57,7 @@ module _ {X : Type 0} where
           let t = same es fs (rest_of None None (asked es) (asked fs) e) a.1 in
           (λ k. take (Some (i k)) ∷ t k)
 
-  pub heaps : (R : X → X → Ordering → Type 0) → HeapsRepeat R
+  pub heaps : (R : X → X → Ordering) → HeapsRepeat R
   heaps R = λ o exact room es fs xs ys p q e. same o exact es fs e (by_rank R o room es fs xs ys p q (agree o es fs e))
 
   -- ---- rings

@@ -1,5 +1,5 @@
 -- A bag of waiting items, and what a put and a take do to it.
--- A list stands for a bag: `Shuffled xs ys` says that ys is xs in some order, so that both are the same bag.
+-- A list stands for a bag: `IsPermutation xs ys` says that ys is xs in some order, so that both are the same bag.
 use Rattle.std.specs.Prelude.{◌≡◌, ℕ, ◌<◌, Bool, true, false, List, [], ◌∷◌, length, Some, None, Option}
 use Rattle.std.specs.List.Sorted.{IsPermutation}
 

@@ -1,10 +1,10 @@
 -- Laws over whole strings of calls: which item goes first, and that lists asked alike answer alike.
-use Rattle.std.specs.Prelude.{◌≡◌, ℕ, Bool, ◌⊎◌, List, [], ◌∷◌, ◌++◌, reverse, Some, None, Option}
+use Rattle.std.specs.Prelude.{◌≡◌, ℕ, Bool, List, [], ◌∷◌, ◌++◌, reverse, Some, None, Option}
 use Rattle.std.specs.declared.cmp.Ordering.TheVariants.{Equal}
 use Rattle.std.specs.declared.cmp.Ordering.{Ordering}
 use Rattle.std.specs.Cmp.{IsTotalOrder}
 use Rattle.std.specs.List.Sorted.{IsPermutation}
-use Rattle.std.specs.BTreeMap.AsLists.{CmpEqualImpliesEq}
+use Rattle.std.proofs.lemmas.Map.Lookups.{CmpEqualImpliesEq}
 use Rattle.worklist.specs.Bags.{Put}
 use Rattle.worklist.specs.Orders.{NoLower, TookLeast}
 use Rattle.worklist.specs.Calls.{Call, put, take, Run, added, gone}
@@ -17,7 +17,7 @@ EachTake First (take None ∷ calls) = EachTake First calls
 EachTake {X} First (take (Some x) ∷ calls) = ((others : List X) × IsPermutation (added calls) (gone calls ++ x ∷ others) × First x others) × EachTake First calls
 
 -- of a heap: no item that waited ranks below the one that was taken
-abbrev pub LeastFirst : {X : Type 0} → (X → X → Ordering → Type 0) → List (Call X) → List X → Type 0
+abbrev pub LeastFirst : {X : Type 0} → (X → X → Ordering) → List (Call X) → List X → Type 0
 LeastFirst R calls waiting = EachTake (NoLower R) calls
 
 -- of a ring: what was put, in its order, is what was taken, in its order, and then what waits
@@ -35,7 +35,7 @@ abbrev pub Repeats : {X : Type 0} → (ℕ → List X → X → Bool → List X 
 Repeats {X} P Q = (room : ℕ) (calls again : List (Call X)) (xs ys : List X) → Run P Q room calls xs → Run P Q room again ys → asked calls ≡ asked again → calls ≡ again
 
 -- two heaps whose items of equal rank are the same item
-abbrev pub HeapsRepeat : {X : Type 0} → (X → X → Ordering → Type 0) → Type 0
+abbrev pub HeapsRepeat : {X : Type 0} → (X → X → Ordering) → Type 0
 HeapsRepeat R = (o : IsTotalOrder R) → CmpEqualImpliesEq R → Repeats Put (TookLeast R)
 
 -- Where different items may be of equal rank, two heaps answer alike up to rank.
@@ -67,5 +67,5 @@ module _ {X : Type 0} {R : X → X → Ordering} (o : IsTotalOrder R) where
   Answered (take r ∷ es) (put y s ∷ fs) = ⊥
   Answered (take r ∷ es) (take s ∷ fs) = Tied r s × Answered es fs
 
-abbrev pub HeapsRepeatByRank : {X : Type 0} → (X → X → Ordering → Type 0) → Type 0
+abbrev pub HeapsRepeatByRank : {X : Type 0} → (X → X → Ordering) → Type 0
 HeapsRepeatByRank {X} R = (o : IsTotalOrder R) (room : ℕ) (calls again : List (Call X)) (xs ys : List X) → Run Put (TookLeast R) room calls xs → Run Put (TookLeast R) room again ys → Asked o calls again → Answered o calls again

@@ -6,6 +6,4 @@ pub mod Calls
 pub mod Laws
 pub mod Heaps
 pub mod Items
-pub mod Promises
-pub mod Shuffling
-pub mod Circles
+pub mod Owed

@@ -4,6 +4,8 @@
 //! that takes the oldest, [`items`] the two item types, [`passing`] code over any work list, and [`through`] what
 //! it comes to with either list.
 
+#![tactic(auto)]
+
 pub mod heap;
 pub mod items;
 pub mod list;

@@ -6,8 +6,7 @@
 ghost use Rattle.std.specs.Prelude.{◌≡◌, length, take as front, slice_set};
 ghost use Rattle.worklist.specs.Laws.{FirstInFirstOut, Repeats};
 ghost use Rattle.worklist.specs.Queues.{Queued, Oldest, Circle, around, behind};
-ghost use Rattle.worklist.specs.Promises.{in_order};
-ghost use Rattle.worklist.specs.Circles.{bag_fits};
+ghost use Rattle.worklist.specs.Owed.{in_order, bag_fits};
 
 use super::list::WorkList;
 

@@ -1,7 +1,7 @@
 -- The heap's own promises, in the words of the item's order.
-use Rattle.std.proofs.Common.{length, take}
+use Rattle.std.proofs.Common.{length}
 use Rattle.worklist.specs.Items.{resubstitutions, Earlier}
-use Rattle.worklist.specs.Promises.{foremost_take}
+use Rattle.worklist.proofs.Promises.{foremost_take}
 use Rattle.worklist.proofs.Ranking.{foremost, by_resubstitution}
 use Rattle.worklist.proofs.items.next_resubstitution.Goals as goal
 

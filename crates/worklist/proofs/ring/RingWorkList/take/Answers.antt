@@ -1,10 +1,10 @@
 -- A take from a ring: the oldest item, and `first` goes on by one, or round to the start.
-use Rattle.std.proofs.Common.{◌≡◌, ℕ, ◌+◌, ◌-◌, ◌<◌, ◌≤◌, [], ◌∷◌, ◌++◌, length, take, Some, None, sym, refl, ap, ◌∙◌, subst, arith}
+use Rattle.std.proofs.Common.{◌≡◌, ℕ, ◌+◌, ◌-◌, ◌<◌, ◌≤◌, [], ◌∷◌, length, take, Some, None, sym, refl, ap, ◌∙◌, subst, arith}
 use Rattle.worklist.specs.Queues.{around, Circle}
 use Rattle.worklist.specs.declared.ring.Ring.{Ring}
-use Rattle.worklist.specs.Circles.{leaves_on, around_all}
+use Rattle.worklist.proofs.Circles.{leaves_on, around_all}
 use Rattle.worklist.proofs.Mounds.{some_is_not_none}
-use Rattle.worklist.specs.Promises.{ring_take, took_oldest}
+use Rattle.worklist.proofs.Promises.{ring_take, took_oldest}
 use Rattle.worklist.proofs.ring.RingWorkList.take.Goals as goal
 use Rattle.worklist.proofs.ring.RingWorkList.take.Goals.{then-self-slots, else-self-slots}
 

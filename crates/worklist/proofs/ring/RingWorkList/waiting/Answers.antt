@@ -1,6 +1,6 @@
 -- As many slots as are counted hold the bag.
 use Rattle.std.proofs.Common.{sym}
-use Rattle.worklist.specs.Circles.{length_bag}
+use Rattle.worklist.proofs.Circles.{length_bag}
 use Rattle.worklist.proofs.ring.RingWorkList.waiting.Goals as goal
 
 pub returns : goal.returns

@@ -1,39 +1,25 @@
 -- What every string of calls comes to, from what each call does to the bag.
-use Rattle.std.specs.Prelude.{◌≡◌, ℕ, ◌+◌, ◌<◌, Bool, true, false, ◌⊎◌, List, [], ◌∷◌, ◌++◌, reverse, length, Some, None, Option, refl}
+use Rattle.std.specs.Prelude.{◌≡◌, ℕ, ◌+◌, ◌<◌, Bool, true, false, ◌⊎◌, List, [], ◌∷◌, ◌++◌, length, Some, None, Option}
 use Rattle.std.specs.declared.cmp.Ordering.{Ordering}
 use Rattle.std.proofs.Common.{sym, ap, subst, ◌∙◌, arith, length-append}
 use Rattle.std.specs.List.Sorted.{IsPermutation}
-use Rattle.std.proofs.lemmas.List.{append_assoc, append-nil, reverse-append}
-use Rattle.std.proofs.lemmas.List.Sorted.{IsPermutation-refl, IsPermutation-sym, IsPermutation-cons, IsPermutation-to_front, IsPermutation-trans, length_permutation}
+use Rattle.std.proofs.lemmas.List.{append-nil}
+use Rattle.std.proofs.lemmas.List.Sorted.{IsPermutation-sym, IsPermutation-to_front, IsPermutation-trans, length_permutation}
 use Rattle.std.proofs.ByRecursion.{all_shuffled}
 use Rattle.worklist.specs.Bags.{Put, Took}
 use Rattle.worklist.specs.Queues.{Queued, Oldest}
-use Rattle.worklist.specs.Orders.{above, NoLower, TookLeast}
+use Rattle.worklist.specs.Orders.{TookLeast}
 use Rattle.worklist.specs.Items.{Foremost, TookForemost, ForemostFirst}
 use Rattle.worklist.specs.Calls.{Call, put, take, Run, started, puts, takes, added, gone, Balanced, Faithful, Upheld, Promised}
-use Rattle.worklist.specs.Laws.{EachTake, LeastFirst, FirstInFirstOut}
-use Rattle.worklist.specs.Shuffling.{shuffled_is, shuffled_after, shuffled_middle}
+use Rattle.worklist.specs.Laws.{LeastFirst, FirstInFirstOut}
+use Rattle.worklist.specs.Owed.{balanced, outstanding, plain, each_take, put_itself, took_least, least_first, in_order}
+use Rattle.worklist.proofs.Shuffling.{shuffled_is}
 
 module _ {X : Type 0} where
   -- ---- of a bag
 
   weighed : (calls : List (Call X)) (xs : List X) → IsPermutation (added calls) (gone calls ++ xs) → Balanced calls xs
   weighed calls xs h = record { bag = h; number = sym (length_permutation (added calls) (gone calls ++ xs) h) ∙ length-append (gone calls) xs }
-
-  balanced : {room : ℕ} (calls : List (Call X)) (xs : List X) → Run Put Took room calls xs → IsPermutation (added calls) (gone calls ++ xs)
-  balanced _ _ started = IsPermutation-refl []
-  balanced _ _ (puts {calls} {xs} {ys} x true run h) =
-      IsPermutation-trans _ (x ∷ (gone calls ++ xs)) _ (IsPermutation-cons x _ _ (balanced calls xs run))
-      (IsPermutation-trans _ (gone calls ++ x ∷ xs) _ (shuffled_middle (gone calls) x xs) (shuffled_after (gone calls) (x ∷ xs) ys h.1))
-  balanced _ _ (puts {calls} {xs} {ys} x false run h) = subst (λ l. IsPermutation (added calls) (gone calls ++ l)) (sym h.1) (balanced calls xs run)
-  balanced _ _ (takes {calls} {xs} {ys} None run h) = subst (λ l. IsPermutation (added calls) (gone calls ++ l)) (h.0 ∙ sym h.1) (balanced calls xs run)
-  balanced _ _ (takes {calls} {xs} {ys} (Some x) run h) =
-      IsPermutation-trans _ (gone calls ++ xs) _ (balanced calls xs run)
-      (IsPermutation-trans _ (gone calls ++ x ∷ ys) _ (shuffled_after (gone calls) xs (x ∷ ys) h) (IsPermutation-sym _ _ (shuffled_middle (gone calls) x ys)))
-
-  -- an item that leaves was put and not yet taken
-  outstanding : {room : ℕ} (calls : List (Call X)) (xs : List X) (x : X) (ys : List X) → Run Put Took room calls xs → IsPermutation xs (x ∷ ys) → IsPermutation (added calls) (gone calls ++ x ∷ ys)
-  outstanding calls xs x ys run h = IsPermutation-trans _ (gone calls ++ xs) _ (balanced calls xs run) (shuffled_after (gone calls) xs (x ∷ ys) h)
 
   faithful : {room : ℕ} (calls : List (Call X)) (xs : List X) → Run Put Took room calls xs → Faithful room calls
   faithful _ _ started = tt
@@ -53,24 +39,12 @@ module _ {X : Type 0} where
   module _ (P : ℕ → List X → X → Bool → List X → Type 0) (Q : List X → Option X → List X → Type 0)
       (adds : (room : ℕ) (xs : List X) (x : X) (r : Bool) (ys : List X) → P room xs x r ys → Put room xs x r ys)
       (gives : (xs : List X) (r : Option X) (ys : List X) → Q xs r ys → Took xs r ys) where
-    plain : {room : ℕ} (calls : List (Call X)) (xs : List X) → Run P Q room calls xs → Run Put Took room calls xs
-    plain _ _ started = started
-    plain {room} _ _ (puts {calls} {xs} {ys} x r run h) = puts x r (plain calls xs run) (adds room xs x r ys h)
-    plain _ _ (takes {calls} {xs} {ys} r run h) = takes r (plain calls xs run) (gives xs r ys h)
-
-    each_take : {room : ℕ} (First : X → List X → Type 0) (first : (xs : List X) (x : X) (ys : List X) → Q xs (Some x) ys → First x ys) (calls : List (Call X)) (xs : List X) → Run P Q room calls xs → EachTake First calls
-    each_take First first _ _ started = tt
-    each_take First first _ _ (puts {calls} {xs} x r run h) = each_take First first calls xs run
-    each_take First first _ _ (takes {calls} {xs} None run h) = each_take First first calls xs run
-    each_take First first _ _ (takes {calls} {xs} {ys} (Some x) run h) =
-        ((ys, outstanding calls xs x ys (plain calls xs run) (gives xs (Some x) ys h), first xs x ys h), each_take First first calls xs run)
-
     module _ (rule : List (Call X) → List X → Type 0) (ruled : (room : ℕ) (calls : List (Call X)) (xs : List X) → Run P Q room calls xs → rule calls xs) where
       upheld : (room : ℕ) (calls : List (Call X)) (xs : List X) → Run P Q room calls xs → Upheld P Q rule room calls xs
       upheld room calls xs run = record {
         run = run;
-        balance = weighed calls xs (balanced calls xs (plain calls xs run));
-        answers = faithful calls xs (plain calls xs run);
+        balance = weighed calls xs (balanced calls xs (plain P Q adds gives calls xs run));
+        answers = faithful calls xs (plain P Q adds gives calls xs run);
         ruled = ruled room calls xs run;
       }
 
@@ -82,25 +56,12 @@ module _ {X : Type 0} where
 
   -- ---- of a heap
 
-  put_itself : (room : ℕ) (xs : List X) (x : X) (r : Bool) (ys : List X) → Put room xs x r ys → Put room xs x r ys
-  put_itself room xs x r ys h = h
-
-  module _ (R : X → X → Ordering → Type 0) where
-    took_least : (xs : List X) (r : Option X) (ys : List X) → TookLeast R xs r ys → Took xs r ys
-    took_least xs None ys h = h
-    took_least xs (Some x) ys h = h.0
-
-    least_others : (xs : List X) (x : X) (ys : List X) → TookLeast R xs (Some x) ys → NoLower R x ys
-    least_others xs x ys h = λ o. (all_shuffled (λ y. above o x y ≡ false) xs (x ∷ ys) h.0 (h.1 o)).1
-
-    pub least_first : (room : ℕ) (calls : List (Call X)) (xs : List X) → Run Put (TookLeast R) room calls xs → LeastFirst R calls xs
-    least_first room = each_take Put (TookLeast R) put_itself took_least (NoLower R) least_others
-
+  module _ (R : X → X → Ordering) where
     pub heap_put : (room : ℕ) (xs : List X) (x : X) (r : Bool) (ys : List X) → Put room xs x r ys → Promised Put (TookLeast R) (LeastFirst R) room xs (put x r) ys
-    heap_put = put_promise Put (TookLeast R) put_itself took_least (LeastFirst R) least_first
+    heap_put = put_promise Put (TookLeast R) put_itself (took_least R) (LeastFirst R) (least_first R)
 
     pub heap_take : (room : ℕ) (xs : List X) (r : Option X) (ys : List X) → TookLeast R xs r ys → Promised Put (TookLeast R) (LeastFirst R) room xs (take r) ys
-    heap_take = take_promise Put (TookLeast R) put_itself took_least (LeastFirst R) least_first
+    heap_take = take_promise Put (TookLeast R) put_itself (took_least R) (LeastFirst R) (least_first R)
 
   module _ (B : X → X → Type 0) where
     took_foremost : (xs : List X) (r : Option X) (ys : List X) → TookForemost B xs r ys → Took xs r ys
@@ -125,15 +86,6 @@ module _ {X : Type 0} where
   pub took_oldest : (xs : List X) (r : Option X) (ys : List X) → Oldest xs r ys → Took xs r ys
   took_oldest xs None ys h = h
   took_oldest xs (Some x) ys h = shuffled_is _ _ (sym h)
-
-  pub in_order : (room : ℕ) (calls : List (Call X)) (xs : List X) → Run Queued Oldest room calls xs → FirstInFirstOut calls xs
-  in_order room _ _ started = refl
-  in_order room _ _ (puts {calls} {xs} {ys} x true run h) =
-      reverse-append (x ∷ []) (added calls) ∙ ap (λ l. l ++ x ∷ []) (in_order room calls xs run) ∙ append_assoc (reverse (gone calls)) xs (x ∷ []) ∙ ap (λ l. reverse (gone calls) ++ l) (sym h.1)
-  in_order room _ _ (puts {calls} {xs} {ys} x false run h) = in_order room calls xs run ∙ ap (λ l. reverse (gone calls) ++ l) (sym h.1)
-  in_order room _ _ (takes {calls} {xs} {ys} None run h) = in_order room calls xs run ∙ ap (λ l. reverse (gone calls) ++ l) (h.0 ∙ sym h.1)
-  in_order room _ _ (takes {calls} {xs} {ys} (Some x) run h) =
-      in_order room calls xs run ∙ ap (λ l. reverse (gone calls) ++ l) h ∙ sym (append_assoc (reverse (gone calls)) (x ∷ []) ys) ∙ ap (λ l. l ++ ys) (sym (reverse-append (x ∷ []) (gone calls)))
 
   pub ring_put : (room : ℕ) (xs : List X) (x : X) (r : Bool) (ys : List X) → Queued room xs x r ys → Promised Queued Oldest FirstInFirstOut room xs (put x r) ys
   ring_put = put_promise Queued Oldest put_queued took_oldest FirstInFirstOut in_order

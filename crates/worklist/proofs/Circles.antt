@@ -1,6 +1,6 @@
 -- The ring over a put and a take.
-use Rattle.std.specs.Prelude.{◌≡◌, ℕ, suc, ◌+◌, ◌-◌, ◌%◌, ◌<◌, ◌≤◌, List, [], ◌∷◌, ◌++◌, length, take, drop, slice_index_or, slice_set, refl}
-use Rattle.std.proofs.Common.{sym, ap, subst, ◌∙◌, mod-eq_of_lt, arith, add-one, length-set, length-append, length-take, length-drop}
+use Rattle.std.specs.Prelude.{◌≡◌, ℕ, ◌+◌, ◌-◌, ◌%◌, ◌<◌, ◌≤◌, List, [], ◌∷◌, ◌++◌, length, take, drop, slice_index_or, slice_set}
+use Rattle.std.proofs.Common.{sym, ap, ◌∙◌, mod-eq_of_lt, arith, add-one, length-append, length-drop}
 use Rattle.std.proofs.Math.Nat.{add-mod_right}
 use Rattle.std.proofs.Math.Seq.{take-set-lt}
 use Rattle.std.proofs.lemmas.List.{take-set-le, drop-set-lt, drop-set-add, set-append_left, set-append_right, take_more_set, take_more, drop_more, take-append-le, append_assoc, append-nil, drop_all, length-take-le, take_all}
@@ -77,9 +77,6 @@ module _ {X : Type 0} where
       let w : first < length (x ∷ xs) = c.within (omega arith) in
       let h : count ≤ length (x ∷ xs) = c.fits in
       length-take-le count (around first (x ∷ xs)) (omega (arith, length_around first (x ∷ xs) (omega arith)))
-
-  pub bag_fits : (first count : ℕ) (xs : List X) → Circle first count xs → length (take count (around first xs)) ≤ length xs
-  bag_fits first count xs c = let h : count ≤ length xs = c.fits in omega (arith, length_bag first count xs c)
 
   pub still : (first count : ℕ) (xs ys : List X) → Circle first count xs → count < length xs → length ys ≡ length xs → Circle first (count + 1) ys
   still first count xs ys c lt e = let w : first < length xs = c.within (omega arith) in record { fits = omega arith; within = λ _. omega arith }
