@@ -19,8 +19,8 @@ import sys
 CHOSEN = {"bit-and": "bit-bit_and", "bit-xor": "bit-bit_xor", "sameBool": "same_bit"}
 # kept: a dash that joins a name to an operator, as std's own
 KEPT = {"covered-++"}
-# names given to another file's name where it is imported
-ALIASES = {"firstVar": "first_var"}
+# a name given where another is imported, and one that the kit's script turned halfway
+ALIASES = {"firstVar": "first_var", "Goes_on": "GoesOn"}
 
 DECLARED = re.compile(
     r"^\s*(?:(?:unfoldable|abbrev|pub|data|record|ruleset)\s+)*([^\s(){}:,;=]+)((?:\s+[({][^:]*:[^=]*)*)\s*:\s(.*)$"

@@ -40,8 +40,8 @@ pub data Run {X : Type 0} (P : ℕ → List X → X → Bool → List X → Type
   takes : {calls : List (Call X)} {xs ys : List X} (r : Option X) → Run P Q room calls xs → Q xs r ys → Run P Q room (take r ∷ calls) ys
 
 -- whatever run led to the bag xs, with the calls that `more` adds it is a run that leads to ys
-abbrev pub Goes_on : {X : Type 0} → (ℕ → List X → X → Bool → List X → Type 0) → (List X → Option X → List X → Type 0) → ℕ → List X → (List (Call X) → List (Call X)) → List X → Type 0
-Goes_on {X} P Q room xs more ys = (calls : List (Call X)) → Run P Q room calls xs → Run P Q room (more calls) ys
+abbrev pub GoesOn : {X : Type 0} → (ℕ → List X → X → Bool → List X → Type 0) → (List X → Option X → List X → Type 0) → ℕ → List X → (List (Call X) → List (Call X)) → List X → Type 0
+GoesOn {X} P Q room xs more ys = (calls : List (Call X)) → Run P Q room calls xs → Run P Q room (more calls) ys
 
 -- what was put is what was taken and what waits, as bags and in number
 pub record Balanced {X : Type 0} (calls : List (Call X)) (waiting : List X) : Type 0 where
