@@ -1,7 +1,7 @@
 -- The steps of writing what an accepted sheet says.
 use Rattle.std.proofs.Common.{◌≡◌, ℕ, zero, suc, ◌+◌, ◌<◌, ◌≤◌, Bool, true, false, leb, List, [], ◌∷◌, ◌++◌, length, get_or, take, drop, Some, None, Err, Result, sym, refl, ap, ◌∙◌, subst, append_assoc, append-nil, arith}
 use Rattle.std.proofs.lemmas.List.{length-append, take_more, length-take-le, flat_map_more, take_all}
-use Rattle.std.proofs.lemmas.Bool.{lt_ltb, leb-false, leb-true, and_parts}
+use Rattle.std.proofs.lemmas.Bool.{lt-ltb, leb-false, leb-true, and_parts}
 use Rattle.std.specs.List.{flat_map}
 use Rattle.gates.specs.Kinds.{between}
 use Rattle.sheet.specs.declared.gate.Gate.{Gate}
@@ -71,7 +71,7 @@ full_at_gate before place c k w g e l h i same holds r =
     let fits = gate_fits c k w g l h i same n in
     let small : w.gates < 600 = omega (arith, n, few 0 600 (length c.gates) l.few_gates) in
     let none : gate_flaw (w.inputs + 2 + w.gates) g ≡ None = sym (flaw_none (w.inputs + 2 + w.gates) g fits) in
-    let is : gate_refusal (length place) w g ≡ unless (leb (gates_end w.gates + 7) (length place)) Full = simp (lt_ltb w.gates 600 small, none) in
+    let is : gate_refusal (length place) w g ≡ unless (leb (gates_end w.gates + 7) (length place)) Full = simp (lt-ltb w.gates 600 small, none) in
     let q = only_full (gates_end w.gates + 7) (length place) e (r ∙ is) in
     (q.0, omega (arith, q.1, n, gate_room c k h))
 
@@ -152,7 +152,7 @@ full_at_output before place c k r w o e h half first p =
     let small : w.outputs < 256 = omega (arith, n, few 1 256 (length c.outputs) l.few_outputs) in
     let own : c.inputs + 2 + length c.gates ≡ w.inputs + 2 + w.gates = omega (arith, half.holds.inputs, half.holds.gates) in
     let none : output_flaw (w.inputs + 2 + w.gates) (names (take k c.outputs)) o ≡ None = no_output_flaw (w.inputs + 2 + w.gates) (names (take k c.outputs)) o (output_fits c k (w.inputs + 2 + w.gates) o l h i own) in
-    let is : output_refusal (length place) w (names (take k c.outputs)) o ≡ unless (leb (w.end + length (output_bytes o)) (length place)) Full = simp (lt_ltb w.outputs 256 small, none) in
+    let is : output_refusal (length place) w (names (take k c.outputs)) o ≡ unless (leb (w.end + length (output_bytes o)) (length place)) Full = simp (lt-ltb w.outputs 256 small, none) in
     let q = only_full (w.end + length (output_bytes o)) (length place) e (p ∙ is) in
     (q.0, omega (arith, q.1, half.holds.end, output_room c k o h i))
 

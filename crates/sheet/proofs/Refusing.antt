@@ -1,6 +1,6 @@
 -- Which refusal a writer's call gives, from what its tests found.
 use Rattle.std.proofs.Common.{◌≡◌, ℕ, ◌+◌, ◌<◌, ◌≤◌, List, [], length, Some, None, sym, arith}
-use Rattle.std.proofs.lemmas.Bool.{lt_ltb, le_ltb, le-leb, lt-leb}
+use Rattle.std.proofs.lemmas.Bool.{lt-ltb, le-ltb, le-leb, lt-leb}
 use Rattle.sheet.specs.declared.gate.Gate.{Gate}
 use Rattle.sheet.specs.declared.fault.Flaw.{Flaw}
 use Rattle.sheet.specs.declared.fault.Flaw.TheVariants.{Count}
@@ -14,16 +14,16 @@ use Rattle.sheet.specs.Written.{gates_end, outputs_start}
 
 module _ (room : ℕ) (w : Gates) (g : Gate) where
   pub many_gates : w.gates ≡ 600 → Some (Wrong Count) ≡ gate_refusal room w g
-  many_gates e = simp (le_ltb w.gates 600 (omega arith))
+  many_gates e = simp (le-ltb w.gates 600 (omega arith))
 
   pub wrong_gate : (f : Flaw) → w.gates < 600 → Some f ≡ gate_flaw (w.inputs + 2 + w.gates) g → Some (Wrong f) ≡ gate_refusal room w g
-  wrong_gate f h e = simp (lt_ltb w.gates 600 h, sym e)
+  wrong_gate f h e = simp (lt-ltb w.gates 600 h, sym e)
 
   pub full_gate : w.gates < 600 → None ≡ gate_flaw (w.inputs + 2 + w.gates) g → room < gates_end w.gates + 7 → Some Full ≡ gate_refusal room w g
-  full_gate h e f = simp (lt_ltb w.gates 600 h, sym e, lt-leb (gates_end w.gates + 7) room f)
+  full_gate h e f = simp (lt-ltb w.gates 600 h, sym e, lt-leb (gates_end w.gates + 7) room f)
 
   pub taken_gate : w.gates < 600 → None ≡ gate_flaw (w.inputs + 2 + w.gates) g → gates_end w.gates + 7 ≤ room → None ≡ gate_refusal room w g
-  taken_gate h e f = simp (lt_ltb w.gates 600 h, sym e, le-leb (gates_end w.gates + 7) room f)
+  taken_gate h e f = simp (lt-ltb w.gates 600 h, sym e, le-leb (gates_end w.gates + 7) room f)
 
 module _ (room : ℕ) (w : Gates) (o : Output) where
   pub wrong_first : (f : Flaw) → Some f ≡ output_flaw (w.inputs + 2 + w.gates) [] o → Some (Wrong f) ≡ first_output_refusal room w o
@@ -37,13 +37,13 @@ module _ (room : ℕ) (w : Gates) (o : Output) where
 
 module _ (room : ℕ) (w : Outputs) (earlier : List (List ℕ)) (o : Output) where
   pub many_outputs : w.outputs ≡ 256 → Some (Wrong Count) ≡ output_refusal room w earlier o
-  many_outputs e = simp (le_ltb w.outputs 256 (omega arith))
+  many_outputs e = simp (le-ltb w.outputs 256 (omega arith))
 
   pub wrong_output : (f : Flaw) → w.outputs < 256 → output_flaw (w.inputs + 2 + w.gates) earlier o ≡ Some f → Some (Wrong f) ≡ output_refusal room w earlier o
-  wrong_output f h e = simp (lt_ltb w.outputs 256 h, e)
+  wrong_output f h e = simp (lt-ltb w.outputs 256 h, e)
 
   pub full_output : w.outputs < 256 → output_flaw (w.inputs + 2 + w.gates) earlier o ≡ None → room < w.end + length (output_bytes o) → Some Full ≡ output_refusal room w earlier o
-  full_output h e f = simp (lt_ltb w.outputs 256 h, e, lt-leb (w.end + length (output_bytes o)) room f)
+  full_output h e f = simp (lt-ltb w.outputs 256 h, e, lt-leb (w.end + length (output_bytes o)) room f)
 
   pub taken_output : w.outputs < 256 → output_flaw (w.inputs + 2 + w.gates) earlier o ≡ None → w.end + length (output_bytes o) ≤ room → None ≡ output_refusal room w earlier o
-  taken_output h e f = simp (lt_ltb w.outputs 256 h, e, le-leb (w.end + length (output_bytes o)) room f)
+  taken_output h e f = simp (lt-ltb w.outputs 256 h, e, le-leb (w.end + length (output_bytes o)) room f)

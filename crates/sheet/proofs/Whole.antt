@@ -1,6 +1,6 @@
 -- A gate record that is all there.
 use Rattle.std.proofs.Common.{◌≡◌, ℕ, ◌+◌, ◌-◌, ◌*◌, ◌≤◌, true, false, List, [], ◌∷◌, length, get_or, take, drop, Ok, Err, sym, refl, ap, ◌∙◌, subst, arith}
-use Rattle.std.proofs.lemmas.List.{length_drop, drop_drop, take_rest}
+use Rattle.std.proofs.lemmas.List.{length-drop, drop-drop, take_rest}
 use Rattle.sheet.specs.declared.gate.Gate.{Gate}
 use Rattle.sheet.specs.declared.fault.Flaw.{Flaw}
 use Rattle.sheet.specs.declared.fault.Flaw.TheVariants.{Kind, Signal}
@@ -53,10 +53,10 @@ pub refused_at : (own : ℕ) (before : Reader) (g : Gate) (flaw : Flaw) (n : ℕ
     → Step (gate own) before (Err (record { flaw = flaw; place = before.place + n })) before
 refused_at own before g flaw n s f =
     let e = f.1 (left before) (subst (λ l. Seven l g) (take_rest before.sheet.now before.place) s) in
-    let long : 7 ≤ length before.sheet.now - before.place = omega (arith, s.long, ap length (take_rest before.sheet.now before.place), length_drop before.place before.sheet.now) in
+    let long : 7 ≤ length before.sheet.now - before.place = omega (arith, s.long, ap length (take_rest before.sheet.now before.place), length-drop before.place before.sheet.now) in
     record {
       sheet = refl;
-      reads = sym (e ∙ ap (λ l. wrong flaw (length l)) (drop_drop n before.place before.sheet.now) ∙ ap (wrong flaw) (length_drop _ before.sheet.now));
+      reads = sym (e ∙ ap (λ l. wrong flaw (length l)) (drop-drop n before.place before.sheet.now) ∙ ap (wrong flaw) (length-drop _ before.sheet.now));
       inside = omega (arith, f.0);
     }
 
@@ -65,11 +65,11 @@ pub accepted_at : (own : ℕ) (before after : Reader) (g : Gate) (rest : List �
 accepted_at own before after g rest same at s r f =
     let t = take_rest before.sheet.now before.place in
     let w = whole own (left before) g (subst (λ l. Seven l g) t s) in
-    let d : rest ≡ drop (before.place + 7) before.sheet.now = r ∙ ap (drop 7) t ∙ drop_drop 7 before.place before.sheet.now in
-    let long : 7 ≤ length before.sheet.now - before.place = omega (arith, s.long, ap length t, length_drop before.place before.sheet.now) in
-    let place : after.place ≡ before.place + 7 = at ∙ (let l = ap length d ∙ length_drop (before.place + 7) before.sheet.now in omega arith) in
+    let d : rest ≡ drop (before.place + 7) before.sheet.now = r ∙ ap (drop 7) t ∙ drop-drop 7 before.place before.sheet.now in
+    let long : 7 ≤ length before.sheet.now - before.place = omega (arith, s.long, ap length t, length-drop before.place before.sheet.now) in
+    let place : after.place ≡ before.place + 7 = at ∙ (let l = ap length d ∙ length-drop (before.place + 7) before.sheet.now in omega arith) in
     record {
       sheet = same;
-      reads = sym (w.good f.kind f.a f.b f.c ∙ ap (got g) (drop_drop 7 before.place before.sheet.now ∙ (λ i. drop (sym place i) (sym same i))));
+      reads = sym (w.good f.kind f.a f.b f.c ∙ ap (got g) (drop-drop 7 before.place before.sheet.now ∙ (λ i. drop (sym place i) (sym same i))));
       inside = tt;
     }

@@ -8,9 +8,9 @@ use Rattle.sheet.proofs.copying.copy.Goals as goal
 pub returns-in-Ok : goal.returns-in-Ok
 returns-in-Ok c = λ d s.
     let b : List ℕ = c.args.place.now in
-    let st = c.in-ok-writer.ensures d s in
-    let g = c.in-ok-writer-2.ensures b d s st.0 st.1 in
-    let a = c.output-records-records.ensures d s in
+    let st = c.in_ok-writer.ensures d s in
+    let g = c.in_ok-writer-2.ensures b d s st.0 st.1 in
+    let a = c.output_records-records.ensures d s in
     let f = c.in-ok-writer-3.ensures.written b d s.lawful a g.0 g.1 in
     let half : Halfway b d 1 c.copy-first.new.records c.copy-first.new.place c.in-ok-writer-3.writer = record { lawful = s.lawful; ahead = c.in-ok-writer-3.ensures.ahead d a; holds = f } in
     let o = c.in-ok-writer-4.ensures b d (c.outputs.ensures d s) half in
@@ -19,9 +19,9 @@ returns-in-Ok c = λ d s.
 pub returns-in-Err : goal.returns-in-Err
 returns-in-Err c = λ d s.
     let b : List ℕ = c.args.place.now in
-    let st = c.in-ok-writer.ensures d s in
-    let g = c.in-ok-writer-2.ensures b d s st.0 st.1 in
-    let a = c.output-records-records.ensures d s in
+    let st = c.in_ok-writer.ensures d s in
+    let g = c.in_ok-writer-2.ensures b d s st.0 st.1 in
+    let a = c.output_records-records.ensures d s in
     let f = c.in-ok-writer-3.ensures.written b d s.lawful a g.0 g.1 in
     let half : Halfway b d 1 c.copy-first.new.records c.copy-first.new.place c.in-ok-writer-3.writer = record { lawful = s.lawful; ahead = c.in-ok-writer-3.ensures.ahead d a; holds = f } in
     let o = c.in-ok-writer-4.ensures b d (c.outputs.ensures d s) half in

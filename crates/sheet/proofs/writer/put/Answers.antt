@@ -4,4 +4,4 @@ use Rattle.sheet.proofs.Writing.{put_is}
 use Rattle.sheet.proofs.writer.put.Goals as goal
 
 pub returns : goal.returns
-returns c = put_is c.args.place.now c.copy-from-slice.new.self c.args.bytes.now c.args.at c.copy-from-slice.ensures.after
+returns c = put_is c.args.place.now c.copy_from_slice.new.self c.args.bytes.now c.args.at c.copy_from_slice.ensures.after

@@ -12,19 +12,19 @@ overflow-add-inputs-2 c =
     omega arith
 
 pub returns-then-reader-sheet : goal.returns-then-reader-sheet
-returns-then-reader-sheet c = more_left c.args.sheet.now c.in-ok-inputs.inputs c.in-ok-gates.gates c.in-ok-outputs.outputs c.outputs.new.self
-    (read_all _ c.byte-within.new.self c.number-within.new.self c.gates.new.self c.outputs.new.self c.in-ok-placed.field-0 c.in-ok-inputs.inputs c.in-ok-gates.gates c.in-ok-outputs.outputs refl
+returns-then-reader-sheet c = more_left c.args.sheet.now c.in_ok-inputs.inputs c.in_ok-gates.gates c.in_ok-outputs.outputs c.outputs.new.self
+    (read_all _ c.byte-within.new.self c.number-within.new.self c.gates.new.self c.outputs.new.self c.in-ok-placed.field-0 c.in_ok-inputs.inputs c.in_ok-gates.gates c.in_ok-outputs.outputs refl
     (at_ok (λ x. x) edition _ c.byte-within.new.self c.byte-within.result 0 c.in-ok-placed.field-0 c.byte-within.ensures c.in-ok-placed.ensures)
-    (at_ok (λ x. x) input_section c.byte-within.new.self c.number-within.new.self c.number-within.result 1 c.in-ok-inputs.inputs c.number-within.ensures c.in-ok-inputs.ensures)
-    (at_ok (λ x. x) (λ xs. counted (gate_section c.in-ok-inputs.inputs xs)) c.number-within.new.self c.gates.new.self c.gates.result 2 c.in-ok-gates.gates c.gates.ensures c.in-ok-gates.ensures)
-    (at_ok (λ x. x) (λ xs. counted (output_section (c.in-ok-inputs.inputs + 2 + c.in-ok-gates.gates) xs)) c.gates.new.self c.outputs.new.self c.outputs.result 3 c.in-ok-outputs.outputs c.outputs.ensures c.in-ok-outputs.ensures))
+    (at_ok (λ x. x) input_section c.byte-within.new.self c.number-within.new.self c.number-within.result 1 c.in_ok-inputs.inputs c.number-within.ensures c.in_ok-inputs.ensures)
+    (at_ok (λ x. x) (λ xs. counted (gate_section c.in_ok-inputs.inputs xs)) c.number-within.new.self c.gates.new.self c.gates.result 2 c.in_ok-gates.gates c.gates.ensures c.in_ok-gates.ensures)
+    (at_ok (λ x. x) (λ xs. counted (output_section (c.in_ok-inputs.inputs + 2 + c.in_ok-gates.gates) xs)) c.gates.new.self c.outputs.new.self c.outputs.result 3 c.in_ok-outputs.outputs c.outputs.ensures c.in_ok-outputs.ensures))
     c.if-reader-sheet.true
 
 pub returns : goal.returns
-returns c = all_read c.args.sheet.now c.in-ok-inputs.inputs c.in-ok-gates.gates c.in-ok-outputs.outputs c.outputs.new.self (λ k. (c.type-inv.sheet k).fits)
-    (read_all _ c.byte-within.new.self c.number-within.new.self c.gates.new.self c.outputs.new.self c.in-ok-placed.field-0 c.in-ok-inputs.inputs c.in-ok-gates.gates c.in-ok-outputs.outputs refl
+returns c = all_read c.args.sheet.now c.in_ok-inputs.inputs c.in_ok-gates.gates c.in_ok-outputs.outputs c.outputs.new.self (λ k. (c.type-inv.sheet k).fits)
+    (read_all _ c.byte-within.new.self c.number-within.new.self c.gates.new.self c.outputs.new.self c.in-ok-placed.field-0 c.in_ok-inputs.inputs c.in_ok-gates.gates c.in_ok-outputs.outputs refl
     (at_ok (λ x. x) edition _ c.byte-within.new.self c.byte-within.result 0 c.in-ok-placed.field-0 c.byte-within.ensures c.in-ok-placed.ensures)
-    (at_ok (λ x. x) input_section c.byte-within.new.self c.number-within.new.self c.number-within.result 1 c.in-ok-inputs.inputs c.number-within.ensures c.in-ok-inputs.ensures)
-    (at_ok (λ x. x) (λ xs. counted (gate_section c.in-ok-inputs.inputs xs)) c.number-within.new.self c.gates.new.self c.gates.result 2 c.in-ok-gates.gates c.gates.ensures c.in-ok-gates.ensures)
-    (at_ok (λ x. x) (λ xs. counted (output_section (c.in-ok-inputs.inputs + 2 + c.in-ok-gates.gates) xs)) c.gates.new.self c.outputs.new.self c.outputs.result 3 c.in-ok-outputs.outputs c.outputs.ensures c.in-ok-outputs.ensures))
+    (at_ok (λ x. x) input_section c.byte-within.new.self c.number-within.new.self c.number-within.result 1 c.in_ok-inputs.inputs c.number-within.ensures c.in_ok-inputs.ensures)
+    (at_ok (λ x. x) (λ xs. counted (gate_section c.in_ok-inputs.inputs xs)) c.number-within.new.self c.gates.new.self c.gates.result 2 c.in_ok-gates.gates c.gates.ensures c.in_ok-gates.ensures)
+    (at_ok (λ x. x) (λ xs. counted (output_section (c.in_ok-inputs.inputs + 2 + c.in_ok-gates.gates) xs)) c.gates.new.self c.outputs.new.self c.outputs.result 3 c.in_ok-outputs.outputs c.outputs.ensures c.in_ok-outputs.ensures))
     c.if-reader-sheet.false

@@ -16,7 +16,7 @@ returns c =
       state = (
         refl,
         record {
-          is = c.put-3.ensures ∙ (λ i. put ((c.put-2.ensures ∙ (λ j. put (c.put.ensures j) 1 (c.number_bytes.ensures j))) i) 3 (c.number-bytes-2.ensures i)) ∙ opened c.args.inputs c.args.place.now (omega arith);
+          is = c.put-3.ensures ∙ (λ i. put ((c.put-2.ensures ∙ (λ j. put (c.put.ensures j) 1 (c.number_bytes.ensures j))) i) 3 (c.number_bytes-2.ensures i)) ∙ opened c.args.inputs c.args.place.now (omega arith);
           many = refl;
           some = fits;
           fits = tt;
