@@ -1,5 +1,4 @@
 -- What is left to show of `writer::put`, beyond what the search finds.
-use Rattle.sheet.specs.Reading.{bytes}
 use Rattle.sheet.proofs.Writing.{put_is}
 use Rattle.sheet.proofs.writer.put.Goals as goal
 

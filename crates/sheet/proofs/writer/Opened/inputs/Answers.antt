@@ -3,7 +3,6 @@ use Rattle.std.proofs.Common.{◌≡◌, true, leb, length, refl, ◌∙◌, ari
 use Rattle.gates.specs.Kinds.{between}
 use Rattle.std.proofs.lemmas.Bool.Decides.{nat_tests}
 use Rattle.std.proofs.lemmas.Bool.{le-leb}
-use Rattle.sheet.specs.Format.{number_bytes}
 use Rattle.sheet.specs.Written.{put}
 use Rattle.sheet.proofs.Writing.{opened}
 use Rattle.sheet.proofs.writer.Opened.inputs.Goals as goal
