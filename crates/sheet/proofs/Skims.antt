@@ -1,9 +1,6 @@
 -- The names in the bytes are those that were read.
-use Rattle.std.proofs.Common.{◌≡◌, ℕ, zero, suc, ◌+◌, ◌-◌, ◌<◌, ◌≤◌, Bool, true, false, ◌&&◌, ◌||◌, leb, List, [], ◌∷◌, ◌++◌, length, get_or, take, drop, Decides, sym, refl, ap, ◌∙◌, subst, append_assoc, append-nil, arith}
+use Rattle.std.proofs.Common.{◌≡◌, ℕ, zero, suc, ◌+◌, ◌-◌, ◌<◌, ◌≤◌, Bool, true, false, ◌&&◌, ◌||◌, leb, List, [], ◌∷◌, ◌++◌, length, get_or, take, drop, sym, refl, ap, ◌∙◌, subst, append_assoc, append-nil, arith}
 use Rattle.std.proofs.lemmas.List.{map_push, at_drop_more, at_drop_all}
-use Rattle.std.proofs.lemmas.Slice.Eq.{slice_eq-Decides, bytes_eq-Decides}
-use Rattle.std.proofs.lemmas.Bool.Decides.{same_from_decides, Decides-eqb}
-use Rattle.std.specs.Cmp.Lexicographic.{Matches}
 use Rattle.std.proofs.lemmas.Bool.{leb-true}
 use Rattle.std.specs.Str.{bytes_eq}
 use Rattle.sheet.specs.declared.fault.Flaw.TheVariants.{Name}
@@ -106,9 +103,6 @@ pub look_all : (name outputs : List ℕ) (count k : ℕ) (rest : List ℕ) → c
 look_all name outputs count k rest h l =
     let e : count - k ≡ 0 = omega arith in
     ap (λ n. used name (skim n rest)) (sym e) ∙ l.same
-
-pub same_name : (other name : List ℕ) (r : Bool) → Matches (λ (a b : ℕ) (t : Bool). Decides t (a ≡ b)) other name r → bytes_eq other name ≡ r
-same_name other name r m = sym (same_from_decides r _ (slice_eq-Decides Decides-eqb other name r m) (bytes_eq-Decides other name))
 
 -- the search among the bytes of `rest`, which are those of `outputs`
 pub named_before : (name outputs rest : List ℕ) (count : ℕ) (r : Bool) → rest ≡ outputs → Room count outputs → (Room count rest → r ≡ used name (skim count rest)) → used name (skim count outputs) ≡ r

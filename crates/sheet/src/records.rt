@@ -1,6 +1,6 @@
 //! The outputs of an accepted sheet in order, one at a time.
 ghost use Rattle.std.specs.Prelude.{◌≡◌, List, drop};
-ghost use Rattle.sheet.specs.Format.{Output as an-output};
+ghost use Rattle.sheet.specs.Format.{Output as AnOutput};
 ghost use Rattle.sheet.specs.Sections.{Ahead, item, output_in};
 
 use crate::output::{OutputRecord, output_record};
@@ -22,7 +22,7 @@ impl<'a> OutputRecords<'a> {
 
     /// The next output, and a step past it.
     pub fn next_output(&mut self) -> Option<OutputRecord<'a>>
-        ensures { (os : List an-output) → Ahead self.old os → (output_in result ≡ item os 0) × Ahead self.new (drop 1 os) }
+        ensures { (os : List AnOutput) → Ahead self.old os → (output_in result ≡ item os 0) × Ahead self.new (drop 1 os) }
     {
         if self.left == 0 {
             return None;

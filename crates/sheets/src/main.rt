@@ -1,5 +1,7 @@
 //! Writes and reads sheets by hand: a script on standard input, one line for each record or question.
 //! With a number as its argument it measures instead how long the largest sheet takes, so many times.
+#![tactic(auto)]
+
 use std::env;
 
 mod desk;

@@ -1,8 +1,8 @@
 //! The fields of a sheet: a byte, a number, some bytes, and the tests that they have to pass.
 ghost use Rattle.std.specs.Prelude.{◌≡◌, ◌+◌, ◌*◌, ◌≤◌};
-ghost use Rattle.sheet.specs.Reading.{byte as a_byte, number as a-number, bytes as some_bytes, judged};
+ghost use Rattle.sheet.specs.Reading.{byte as a_byte, number as a_number, bytes as some_bytes, judged};
 ghost use Rattle.gates.specs.Kinds.{between};
-ghost use Rattle.sheet.specs.Format.{operand as an-operand, operand_fits, operand_flaw};
+ghost use Rattle.sheet.specs.Format.{operand as an_operand, operand_fits, operand_flaw};
 ghost use Rattle.sheet.specs.View.{Step, PartStep};
 
 use crate::fault::{FieldFault, Flaw};
@@ -27,7 +27,7 @@ impl<'a> Reader<'a> {
 
     /// A number of two bytes.
     pub fn number(&mut self) -> Result<u16, FieldFault>
-        ensures { Step a-number self.old result self.new }
+        ensures { Step a_number self.old result self.new }
     {
         if self.sheet.len() - self.place < 2 {
             return Err(FieldFault {
@@ -71,7 +71,7 @@ impl<'a> Reader<'a> {
 
     /// A number, which has to be in a range.
     pub fn number_within(&mut self, low: u16, high: u16, flaw: Flaw) -> Result<u16, FieldFault>
-        ensures { Step (judged a-number (between low high) flaw) self.old result self.new }
+        ensures { Step (judged a_number (between low high) flaw) self.old result self.new }
     {
         let place = self.place;
         let number = self.number()?;
@@ -84,7 +84,7 @@ impl<'a> Reader<'a> {
 
     /// An operand of the gate whose signal is `own`, or 0 where the gate does not read it.
     pub fn operand(&mut self, read: bool, own: u16) -> Result<u16, FieldFault>
-        ensures { Step (an-operand read own) self.old result self.new }
+        ensures { Step (an_operand read own) self.old result self.new }
     {
         let place = self.place;
         let operand = self.number()?;

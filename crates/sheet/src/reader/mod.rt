@@ -10,7 +10,7 @@ pub struct Reader<'a> {
 }
 
 mod fields;
-mod gates;
+mod gate_records;
 mod outputs;
 mod sections;
 

@@ -1,10 +1,10 @@
 //! The section of outputs, read field by field, each name against the earlier ones.
 ghost use Rattle.std.specs.Prelude.{◌≡◌, ◌≤◌};
 ghost use Rattle.sheet.specs.Reading.{bytes as some_bytes, judged};
-ghost use Rattle.sheet.specs.Format.{visible as all-visible, used, name_fits, output as an-output, output_section};
+ghost use Rattle.sheet.specs.Format.{visible as all_visible, used, name_fits, output as an_output, output_section};
 ghost use Rattle.sheet.specs.Names.{skim, Room, output_of};
 ghost use Rattle.sheet.specs.View.{left, Step, StepBy, PartStep, counted};
-ghost use Rattle.sheet.specs.declared.fault.Flaw.TheVariants.{Name as name-flaw};
+ghost use Rattle.sheet.specs.declared.fault.Flaw.TheVariants.{Name as name_flaw};
 
 use crate::fault::{FieldFault, Flaw};
 use crate::output::{OutputRecord, bytes_from, output_record};
@@ -12,7 +12,7 @@ use crate::reader::Reader;
 
 /// Whether every byte of a name is visible.
 pub fn visible(name: &[u8]) -> bool
-    ensures { result ≡ all-visible name.now }
+    ensures { result ≡ all_visible name.now }
 {
     for b in name {
         if *b < 33 || *b > 126 {
@@ -43,7 +43,7 @@ impl<'a> Reader<'a> {
     /// A name of so many bytes, which none of the `count` outputs from `first` on has.
     fn name(&mut self, size: u8, first: &Reader<'a>, count: u16) -> Result<&'a [u8], FieldFault>
         requires { Room count (left first.now) }
-        ensures { PartStep (judged (some_bytes size) (name_fits (skim count (left first.now))) name-flaw) self.old result self.new }
+        ensures { PartStep (judged (some_bytes size) (name_fits (skim count (left first.now))) name_flaw) self.old result self.new }
     {
         let place = self.place;
         let name = self.part(size as usize)?;
@@ -65,7 +65,7 @@ impl<'a> Reader<'a> {
         count: u16,
     ) -> Result<OutputRecord<'a>, FieldFault>
         requires { Room count (left first.now) }
-        ensures { StepBy output_of (an-output signals (skim count (left first.now))) self.old result self.new }
+        ensures { StepBy output_of (an_output signals (skim count (left first.now))) self.old result self.new }
     {
         let signal = self.operand(true, signals)?;
         let size = self.byte_within(1, 16, Flaw::Name)?;

@@ -23,10 +23,10 @@ impl<'a> Reader<'a> {
 }
 
 /// The answer of a section's field, whose fault gains the section.
-pub fn placed<T>(res: Result<T, FieldFault>, section: u8) -> Result<T, SheetFault>
-    ensures { result ≡ located section res }
+pub fn placed<T>(answer: Result<T, FieldFault>, section: u8) -> Result<T, SheetFault>
+    ensures { result ≡ located section answer }
 {
-    match res {
+    match answer {
         Ok(value) => Ok(value),
         Err(e) => Err(SheetFault {
             flaw: e.flaw,

@@ -3,10 +3,10 @@ use Rattle.sheet.specs.Names.{output_of}
 use Rattle.sheet.proofs.Copies.{first_copied, full_at_first, no_item, some_outputs}
 use Rattle.sheet.proofs.copying.copy_first.Goals as goal
 
-pub returns-in-default : goal.returns-in-default
-returns-in-default c = record {
+pub returns-in_default : goal.returns-in_default
+returns-in_default c = record {
   ahead = λ d a. (c.next_output.ensures d.outputs a).1;
-  written = λ b d l a i h. absurd (no_item d.outputs 0 (some_outputs d l) (c.in-default.ensures d.outputs a).0);
+  written = λ b d l a i h. absurd (no_item d.outputs 0 (some_outputs d l) (c.in_default.ensures d.outputs a).0);
 }
 
 pub returns-in-Ok : goal.returns-in-Ok

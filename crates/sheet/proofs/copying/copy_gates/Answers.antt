@@ -11,8 +11,8 @@ loop-k-preserved c = λ b d s i h.
     let p = c.loop-k.invariant b d s i h in
     gate_copied b c.loop-k.place c.gate-in-loop-k.new.place d c.loop-k.k c.loop-k.writer c.in-Ok.next c.in-Some.gate (omega (arith, c.loop-k-test.true, c.gates-k-end.ensures d s)) (c.in-Some.ensures d s) p.0 p.1 c.in-Ok.ensures.state
 
-pub returns-in-default : goal.returns-in-default
-returns-in-default c = λ b d s i h. absurd (no_item d.gates c.loop-k.k (omega (arith, c.loop-k-test.true, c.gates-k-end.ensures d s)) (c.in-default.ensures d s))
+pub returns-in_default : goal.returns-in_default
+returns-in_default c = λ b d s i h. absurd (no_item d.gates c.loop-k.k (omega (arith, c.loop-k-test.true, c.gates-k-end.ensures d s)) (c.in_default.ensures d s))
 
 pub returns-in-Err : goal.returns-in-Err
 returns-in-Err c = λ b d s i h.

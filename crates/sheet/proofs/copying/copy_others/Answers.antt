@@ -13,10 +13,10 @@ loop-k-preserved c = λ b d e h.
     let p = c.loop-k.invariant b d e h in
     output_copied b c.loop-k.place c.output.new.place d c.loop-k.k c.loop-k.records c.next_output.new.self c.loop-k.writer c.in-Ok.more (output_of c.in-Some.next) (omega (arith, c.loop-k-test.true, e)) p (c.in-Some.ensures (drop c.loop-k.k d.outputs) p.ahead) c.in-Ok.ensures.state
 
-pub returns-in-default : goal.returns-in-default
-returns-in-default c = λ b d e h.
+pub returns-in_default : goal.returns-in_default
+returns-in_default c = λ b d e h.
     let p = c.loop-k.invariant b d e h in
-    absurd (item_next d c.loop-k.k (omega (arith, c.loop-k-test.true, e)) (c.in-default.ensures (drop c.loop-k.k d.outputs) p.ahead).0)
+    absurd (item_next d c.loop-k.k (omega (arith, c.loop-k-test.true, e)) (c.in_default.ensures (drop c.loop-k.k d.outputs) p.ahead).0)
 
 pub returns-in-Err : goal.returns-in-Err
 returns-in-Err c = λ b d e h.

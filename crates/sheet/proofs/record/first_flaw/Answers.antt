@@ -11,8 +11,8 @@ returns-then-gate-lt1 c = record {
   flaw = flaw_kind c.args.own c.args.gate (grind (arith, nat_tests, c.then-gate-lt1.either));
 }
 
-pub returns-then-not-operand-fits : goal.returns-then-not-operand-fits
-returns-then-not-operand-fits c = record {
-  place = (omega arith, λ xs s. (whole _ xs _ s).bad_a (grind (arith, nat_tests)) (sym c.if-not-operand-fits.ensures));
-  flaw = flaw_a c.args.own c.args.gate (grind (arith, nat_tests)) (sym c.if-not-operand-fits.ensures);
+pub returns-then-not-operand_fits : goal.returns-then-not-operand_fits
+returns-then-not-operand_fits c = record {
+  place = (omega arith, λ xs s. (whole _ xs _ s).bad_a (grind (arith, nat_tests)) (sym c.if-not-operand_fits.ensures));
+  flaw = flaw_a c.args.own c.args.gate (grind (arith, nat_tests)) (sym c.if-not-operand_fits.ensures);
 }

@@ -1,6 +1,5 @@
 -- What is left to show of `record::record`, beyond what the search finds.
 use Rattle.std.proofs.Common.{refl, rules}
-use Rattle.sheet.specs.Reading.{bytes}
 use Rattle.std.proofs.lemmas.List.{take_rest}
 use Rattle.sheet.proofs.record.record.Goals as goal
 

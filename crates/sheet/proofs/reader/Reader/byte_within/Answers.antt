@@ -7,4 +7,4 @@ use Rattle.sheet.proofs.Steps.{refused}
 use Rattle.sheet.proofs.reader.Reader.byte_within.Goals as goal
 
 pub returns-else-low-byte : goal.returns-else-low-byte
-returns-else-low-byte c = refused byte (between c.args.low c.args.high) c.args.flaw c.args.flaw c.args.self.now c.byte.new.self c.in-ok-byte.byte c.in-ok-byte.ensures refl (grind (arith, nat_tests, c.else-low-byte.either))
+returns-else-low-byte c = refused byte (between c.args.low c.args.high) c.args.flaw c.args.flaw c.args.self.now c.byte.new.self c.in_ok-byte.byte c.in_ok-byte.ensures refl (grind (arith, nat_tests, c.else-low-byte.either))

@@ -7,4 +7,4 @@ use Rattle.sheet.proofs.Steps.{refused}
 use Rattle.sheet.proofs.reader.Reader.number_within.Goals as goal
 
 pub returns-else-low-number : goal.returns-else-low-number
-returns-else-low-number c = refused number (between c.args.low c.args.high) c.args.flaw c.args.flaw c.args.self.now c.number.new.self c.in-ok-number.number c.in-ok-number.ensures refl (grind (arith, nat_tests, c.else-low-number.either))
+returns-else-low-number c = refused number (between c.args.low c.args.high) c.args.flaw c.args.flaw c.args.self.now c.number.new.self c.in_ok-number.number c.in_ok-number.ensures refl (grind (arith, nat_tests, c.else-low-number.either))

@@ -5,5 +5,5 @@ use Rattle.sheet.specs.Format.{operand_fits, operand_flaw}
 use Rattle.sheet.proofs.Steps.{refused}
 use Rattle.sheet.proofs.reader.Reader.operand.Goals as goal
 
-pub returns-else-operand-fits : goal.returns-else-operand-fits
-returns-else-operand-fits c = refused number (operand_fits c.args.read c.args.own) (operand_flaw c.args.read) c.operand_flaw.result c.args.self.now c.number.new.self c.in-ok-operand.operand c.in-ok-operand.ensures c.operand_flaw.ensures (sym c.if-operand-fits.ensures)
+pub returns-else-operand_fits : goal.returns-else-operand_fits
+returns-else-operand_fits c = refused number (operand_fits c.args.read c.args.own) (operand_flaw c.args.read) c.operand_flaw.result c.args.self.now c.number.new.self c.in_ok-operand.operand c.in_ok-operand.ensures c.operand_flaw.ensures (sym c.if-operand_fits.ensures)

@@ -5,26 +5,26 @@ use Rattle.sheet.specs.View.{left, counted}
 use Rattle.sheet.proofs.Passes.{at_ok, read_all, all_read, more_left, few_inputs, few_gates}
 use Rattle.sheet.proofs.reader.sections.check.Goals as goal
 
-pub overflow-add-inputs-2 : goal.overflow-add-inputs-2
-overflow-add-inputs-2 c =
-    let i : c.in-ok-inputs.inputs ≤ 64 = few_inputs (left c.byte-within.new.self) _ (left c.number-within.new.self) (at_ok (λ x. x) input_section c.byte-within.new.self c.number-within.new.self c.number-within.result 1 c.in-ok-inputs.inputs c.number-within.ensures c.in-ok-inputs.ensures).reads in
-    let g : c.in-ok-gates.gates ≤ 600 = few_gates c.in-ok-inputs.inputs (left c.number-within.new.self) _ (left c.gates.new.self) (at_ok (λ x. x) (λ xs. counted (gate_section c.in-ok-inputs.inputs xs)) c.number-within.new.self c.gates.new.self c.gates.result 2 c.in-ok-gates.gates c.gates.ensures c.in-ok-gates.ensures).reads in
+pub overflow_add-inputs-2 : goal.overflow_add-inputs-2
+overflow_add-inputs-2 c =
+    let i : c.in_ok-inputs.inputs ≤ 64 = few_inputs (left c.byte_within.new.self) _ (left c.number_within.new.self) (at_ok (λ x. x) input_section c.byte_within.new.self c.number_within.new.self c.number_within.result 1 c.in_ok-inputs.inputs c.number_within.ensures c.in_ok-inputs.ensures).reads in
+    let g : c.in_ok-gates.gates ≤ 600 = few_gates c.in_ok-inputs.inputs (left c.number_within.new.self) _ (left c.gates.new.self) (at_ok (λ x. x) (λ xs. counted (gate_section c.in_ok-inputs.inputs xs)) c.number_within.new.self c.gates.new.self c.gates.result 2 c.in_ok-gates.gates c.gates.ensures c.in_ok-gates.ensures).reads in
     omega arith
 
 pub returns-then-reader-sheet : goal.returns-then-reader-sheet
-returns-then-reader-sheet c = more_left c.args.sheet.now c.in-ok-inputs.inputs c.in-ok-gates.gates c.in-ok-outputs.outputs c.outputs.new.self
-    (read_all _ c.byte-within.new.self c.number-within.new.self c.gates.new.self c.outputs.new.self c.in-ok-placed.field-0 c.in-ok-inputs.inputs c.in-ok-gates.gates c.in-ok-outputs.outputs refl
-    (at_ok (λ x. x) edition _ c.byte-within.new.self c.byte-within.result 0 c.in-ok-placed.field-0 c.byte-within.ensures c.in-ok-placed.ensures)
-    (at_ok (λ x. x) input_section c.byte-within.new.self c.number-within.new.self c.number-within.result 1 c.in-ok-inputs.inputs c.number-within.ensures c.in-ok-inputs.ensures)
-    (at_ok (λ x. x) (λ xs. counted (gate_section c.in-ok-inputs.inputs xs)) c.number-within.new.self c.gates.new.self c.gates.result 2 c.in-ok-gates.gates c.gates.ensures c.in-ok-gates.ensures)
-    (at_ok (λ x. x) (λ xs. counted (output_section (c.in-ok-inputs.inputs + 2 + c.in-ok-gates.gates) xs)) c.gates.new.self c.outputs.new.self c.outputs.result 3 c.in-ok-outputs.outputs c.outputs.ensures c.in-ok-outputs.ensures))
+returns-then-reader-sheet c = more_left c.args.sheet.now c.in_ok-inputs.inputs c.in_ok-gates.gates c.in_ok-outputs.outputs c.outputs.new.self
+    (read_all _ c.byte_within.new.self c.number_within.new.self c.gates.new.self c.outputs.new.self c.in_ok-placed.field-0 c.in_ok-inputs.inputs c.in_ok-gates.gates c.in_ok-outputs.outputs refl
+    (at_ok (λ x. x) edition _ c.byte_within.new.self c.byte_within.result 0 c.in_ok-placed.field-0 c.byte_within.ensures c.in_ok-placed.ensures)
+    (at_ok (λ x. x) input_section c.byte_within.new.self c.number_within.new.self c.number_within.result 1 c.in_ok-inputs.inputs c.number_within.ensures c.in_ok-inputs.ensures)
+    (at_ok (λ x. x) (λ xs. counted (gate_section c.in_ok-inputs.inputs xs)) c.number_within.new.self c.gates.new.self c.gates.result 2 c.in_ok-gates.gates c.gates.ensures c.in_ok-gates.ensures)
+    (at_ok (λ x. x) (λ xs. counted (output_section (c.in_ok-inputs.inputs + 2 + c.in_ok-gates.gates) xs)) c.gates.new.self c.outputs.new.self c.outputs.result 3 c.in_ok-outputs.outputs c.outputs.ensures c.in_ok-outputs.ensures))
     c.if-reader-sheet.true
 
 pub returns : goal.returns
-returns c = all_read c.args.sheet.now c.in-ok-inputs.inputs c.in-ok-gates.gates c.in-ok-outputs.outputs c.outputs.new.self (λ k. (c.type-inv.sheet k).fits)
-    (read_all _ c.byte-within.new.self c.number-within.new.self c.gates.new.self c.outputs.new.self c.in-ok-placed.field-0 c.in-ok-inputs.inputs c.in-ok-gates.gates c.in-ok-outputs.outputs refl
-    (at_ok (λ x. x) edition _ c.byte-within.new.self c.byte-within.result 0 c.in-ok-placed.field-0 c.byte-within.ensures c.in-ok-placed.ensures)
-    (at_ok (λ x. x) input_section c.byte-within.new.self c.number-within.new.self c.number-within.result 1 c.in-ok-inputs.inputs c.number-within.ensures c.in-ok-inputs.ensures)
-    (at_ok (λ x. x) (λ xs. counted (gate_section c.in-ok-inputs.inputs xs)) c.number-within.new.self c.gates.new.self c.gates.result 2 c.in-ok-gates.gates c.gates.ensures c.in-ok-gates.ensures)
-    (at_ok (λ x. x) (λ xs. counted (output_section (c.in-ok-inputs.inputs + 2 + c.in-ok-gates.gates) xs)) c.gates.new.self c.outputs.new.self c.outputs.result 3 c.in-ok-outputs.outputs c.outputs.ensures c.in-ok-outputs.ensures))
+returns c = all_read c.args.sheet.now c.in_ok-inputs.inputs c.in_ok-gates.gates c.in_ok-outputs.outputs c.outputs.new.self (λ k. (c.type_inv.sheet k).fits)
+    (read_all _ c.byte_within.new.self c.number_within.new.self c.gates.new.self c.outputs.new.self c.in_ok-placed.field-0 c.in_ok-inputs.inputs c.in_ok-gates.gates c.in_ok-outputs.outputs refl
+    (at_ok (λ x. x) edition _ c.byte_within.new.self c.byte_within.result 0 c.in_ok-placed.field-0 c.byte_within.ensures c.in_ok-placed.ensures)
+    (at_ok (λ x. x) input_section c.byte_within.new.self c.number_within.new.self c.number_within.result 1 c.in_ok-inputs.inputs c.number_within.ensures c.in_ok-inputs.ensures)
+    (at_ok (λ x. x) (λ xs. counted (gate_section c.in_ok-inputs.inputs xs)) c.number_within.new.self c.gates.new.self c.gates.result 2 c.in_ok-gates.gates c.gates.ensures c.in_ok-gates.ensures)
+    (at_ok (λ x. x) (λ xs. counted (output_section (c.in_ok-inputs.inputs + 2 + c.in_ok-gates.gates) xs)) c.gates.new.self c.outputs.new.self c.outputs.result 3 c.in_ok-outputs.outputs c.outputs.ensures c.in_ok-outputs.ensures))
     c.if-reader-sheet.false

@@ -7,8 +7,8 @@ use Rattle.sheet.proofs.records.OutputRecords.next_output.Goals as goal
 pub returns-then-self-eq0 : goal.returns-then-self-eq0
 returns-then-self-eq0 c = λ os a. ahead_none c.args.self.now os c.if-self-eq0.true a
 
-pub returns-in-default : goal.returns-in-default
-returns-in-default c = λ os a. absurd (ahead_cut c.args.self.now os c.if-self-eq0.false c.in-default.ensures a)
+pub returns-in_default : goal.returns-in_default
+returns-in_default c = λ os a. absurd (ahead_cut c.args.self.now os c.if-self-eq0.false c.in_default.ensures a)
 
 pub returns : goal.returns
 returns c = λ os a. ahead_more c.args.self.now _ os (output_of c.in-Some.output) c.in-Some.rest.now c.if-self-eq0.false c.in-Some.ensures refl refl a

@@ -3,4 +3,4 @@ use Rattle.std.proofs.Common.{refl}
 use Rattle.sheet.proofs.sheet.Sheet.read.Goals as goal
 
 pub returns : goal.returns
-returns c = (refl, c.in-ok-shape.ensures)
+returns c = (refl, c.in_ok-shape.ensures)

@@ -13,7 +13,7 @@ pub returns-in-Some : goal.returns-in-Some
 returns-in-Some c = record { state = (refl, refl); refusal = wrong_gate (length c.args.place.now) c.args.self c.args.gate c.in-Some.flaw (omega arith) c.in-Some.ensures.flaw }
 
 pub returns-then-place-at : goal.returns-then-place-at
-returns-then-place-at c = record { state = (refl, refl); refusal = full_gate (length c.args.place.now) c.args.self c.args.gate (omega arith) c.in-default.ensures.flaw c.if-place-at.true }
+returns-then-place-at c = record { state = (refl, refl); refusal = full_gate (length c.args.place.now) c.args.self c.args.gate (omega arith) c.in_default.ensures.flaw c.if-place-at.true }
 
 pub returns : goal.returns
 returns c =
@@ -21,6 +21,6 @@ returns c =
     let wrote : c.put-2.new.place ≡ put (put c.args.place.now at (gate_bytes c.args.gate)) 3 (number_bytes (c.args.self.gates + 1)) =
     c.put-2.ensures ∙ (λ i. put ((c.put.ensures ∙ ap (put c.args.place.now at) c.gate_bytes.ensures) i) 3 (c.number_bytes.ensures i)) in
     record {
-      state = record { inputs = refl; gates = refl; writes = wrote; holds = add_gate c.args.place.now c.put-2.new.place c.args.self _ c.args.gate refl refl c.in-default.ensures.place wrote };
-      refusal = taken_gate (length c.args.place.now) c.args.self c.args.gate (omega arith) c.in-default.ensures.flaw c.if-place-at.false;
+      state = record { inputs = refl; gates = refl; writes = wrote; holds = add_gate c.args.place.now c.put-2.new.place c.args.self _ c.args.gate refl refl c.in_default.ensures.place wrote };
+      refusal = taken_gate (length c.args.place.now) c.args.self c.args.gate (omega arith) c.in_default.ensures.flaw c.if-place-at.false;
     }

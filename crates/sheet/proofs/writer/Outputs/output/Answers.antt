@@ -21,7 +21,7 @@ pub returns-then-place-end : goal.returns-then-place-end
 returns-then-place-end c = record {
   state = (refl, refl);
   refusal = λ b d h. full_output (length c.args.place.now) c.args.self (names d.outputs) (named c.args.signal c.args.name.now) (omega arith)
-      (flaw_as b c.args.place.now c.bytes_from.result.now c.args.self d (c.args.self.inputs + 2 + c.args.self.gates) (named c.args.signal c.args.name.now) None c.bytes_from.ensures c.in-default.ensures.flaw h) (omega arith);
+      (flaw_as b c.args.place.now c.bytes_from.result.now c.args.self d (c.args.self.inputs + 2 + c.args.self.gates) (named c.args.signal c.args.name.now) None c.bytes_from.ensures c.in_default.ensures.flaw h) (omega arith);
 }
 
 pub returns : goal.returns
@@ -29,8 +29,8 @@ returns c =
     let o : Output = named c.args.signal c.args.name.now in
     let at : ℕ = gates_end c.args.self.gates in
     let wrote : c.put.new.place ≡ put (put c.args.place.now c.args.self.end (output_bytes o)) at (number_bytes (c.args.self.outputs + 1)) =
-    c.put.ensures ∙ (λ i. put (c.put-output.ensures i) at (c.number_bytes.ensures i)) in
-    let flaw : (b : List ℕ) (d : Content) → HoldsOutputs b c.args.place.now c.args.self d → output_flaw (c.args.self.inputs + 2 + c.args.self.gates) (names d.outputs) o ≡ None = λ b d h. flaw_as b c.args.place.now c.bytes_from.result.now c.args.self d (c.args.self.inputs + 2 + c.args.self.gates) o None c.bytes_from.ensures c.in-default.ensures.flaw h in
+    c.put.ensures ∙ (λ i. put (c.put_output.ensures i) at (c.number_bytes.ensures i)) in
+    let flaw : (b : List ℕ) (d : Content) → HoldsOutputs b c.args.place.now c.args.self d → output_flaw (c.args.self.inputs + 2 + c.args.self.gates) (names d.outputs) o ≡ None = λ b d h. flaw_as b c.args.place.now c.bytes_from.result.now c.args.self d (c.args.self.inputs + 2 + c.args.self.gates) o None c.bytes_from.ensures c.in_default.ensures.flaw h in
     record {
       state = record {
         inputs = refl;

@@ -1,6 +1,6 @@
 //! Gate records: whole ones by a slice pattern, what is left of a short one field by field.
 ghost use Rattle.std.specs.Prelude.{◌≡◌};
-ghost use Rattle.sheet.specs.Format.{gate as a-gate};
+ghost use Rattle.sheet.specs.Format.{gate as a_gate};
 ghost use Rattle.sheet.specs.View.{Step};
 
 use crate::fault::{FieldFault, Flaw};
@@ -12,7 +12,7 @@ use gates::{reads_b, reads_c};
 impl<'a> Reader<'a> {
     /// A gate record, field by field.
     pub fn gate_by_fields(&mut self, own: u16) -> Result<Gate, FieldFault>
-        ensures { Step (a-gate own) self.old result self.new }
+        ensures { Step (a_gate own) self.old result self.new }
     {
         let kind = self.byte_within(1, 9, Flaw::Kind)?;
         let a = self.operand(true, own)?;
@@ -23,7 +23,7 @@ impl<'a> Reader<'a> {
 
     /// A gate record, whose own signal is `own`.
     pub fn gate(&mut self, own: u16) -> Result<Gate, FieldFault>
-        ensures { Step (a-gate own) self.old result self.new }
+        ensures { Step (a_gate own) self.old result self.new }
     {
         let sheet = self.sheet;
         let Some((gate, rest)) = record(&sheet[self.place..]) else {
