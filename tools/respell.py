@@ -1,12 +1,14 @@
 #!/usr/bin/env python3
 """Respells this repository's own definitions and lemmas as today's Rattle has it.
 
-usage: python3 tools/respell.py            at the top of the repository, after the kit's port.py
+usage: python3 tools/respell.py            once, at the top of the repository, after the kit's port.py
 
 A name that is declared in specs/ or proofs/ and has a dash or a capital inside is turned: a word into snake case
-(left-of: left_of, nodeAt: node_at), a type or a fact into upper camel case (Links-equal: LinksEqual). Names that a
-proof file has from Rattle itself (goals, steps, fields) and names of std stay. Where two names would fall together,
-CHOSEN has the new one. Functions of src/, strings and comments keep their text, but for names in backticks.
+(left-of: left_of, nodeAt: node_at), a type or a fact into upper camel case (Links-equal: LinksEqual). Within a file,
+a local name with a dash (of a let, a λ or a binder) is turned too. Names of std stay, and so do names that a proof file
+has from Rattle itself (goals, steps, fields), but where they are spelled as one of ours, and then need the same turn.
+Where two names of one text would fall together and mean two things, CHOSEN has the new one; a definition may get the
+name of the function that it describes. Strings and comments keep their text, but for names in backticks.
 """
 
 import collections
@@ -18,7 +20,7 @@ import sys
 # names that would fall together with another in the same text: the lemmas on `bit` have its name first, as std's have
 CHOSEN = {"bit-and": "bit-bit_and", "bit-xor": "bit-bit_xor", "sameBool": "same_bit"}
 # kept: a dash that joins a name to an operator, as std's own
-KEPT = {"covered-++"}
+KEPT = {"covered-++"} | set(CHOSEN.values())
 # a name given where another is imported, and one that the kit's script turned halfway
 ALIASES = {"firstVar": "first_var", "Goes_on": "GoesOn"}
 

@@ -1,21 +1,24 @@
 //! XOR and AND of two inputs under the codes 0 to 3.
 use crate::{earliest, simulate};
 use aig::{Graph, Net};
-use std::process::Abort;
 use std::test::Fail;
 
-fn and(rt: &impl Abort, graph: &mut Graph, a: Net, b: Net) -> Net {
-    assert!(rt; a.vertex() < graph.used() && b.vertex() < graph.used());
-    assert!(rt; graph.used() < graph.places());
-    graph.and(a, b)
+fn and(graph: &mut Graph, a: Net, b: Net) -> Result<Net, Fail> {
+    if a.vertex() >= graph.used() || b.vertex() >= graph.used() {
+        return Err(Fail::new("an operand is not in use"));
+    }
+    if graph.used() >= graph.places() {
+        return Err(Fail::new("the table is full"));
+    }
+    Ok(graph.and(a, b))
 }
 
 #[test]
 fn xor_and_and(rt: HostRuntime) -> Result<(), Fail> {
     let mut graph = Graph::new(rt.alloc(), 2, 8)?;
-    let both = and(&rt, &mut graph, Net(2), Net(4));
-    let neither = and(&rt, &mut graph, Net(3), Net(5));
-    let one = and(&rt, &mut graph, both.inverse(), neither.inverse());
+    let both = and(&mut graph, Net(2), Net(4))?;
+    let neither = and(&mut graph, Net(3), Net(5))?;
+    let one = and(&mut graph, both.inverse(), neither.inverse())?;
     assert!(rt; graph.used() == 6);
     assert!(rt; both.vertex() < 6 && neither.vertex() < 6 && one.vertex() < 6);
     let mut words = [7u64; 8];

@@ -1,7 +1,7 @@
 -- What the loop in `agree` keeps true.
-use Rattle.std.proofs.Common.{◌≡◌, ℕ, ◌<◌, ◌≤◌, length}
+use Rattle.std.proofs.Common.{◌≡◌, ℕ, ◌<◌}
 use Rattle.aig.specs.Values.{value}
-use Rattle.aig.specs.Graphs.{inputs_of, vertices, used}
+use Rattle.aig.specs.Graphs.{inputs_of, vertices}
 use Rattle.cascade.proofs.agree.Given as goal
 
 abbrev pub invariant-loop-code : goal.invariant-loop-code
