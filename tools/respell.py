@@ -18,11 +18,12 @@ import re
 import sys
 
 # names that would fall together with another in the same text: the lemmas on `bit` have its name first, as std's have
-CHOSEN = {"bit-and": "bit-bit_and", "bit-xor": "bit-bit_xor", "sameBool": "same_bit"}
+# (first-of would be a tactic's name)
+CHOSEN = {"bit-and": "bit-bit_and", "bit-xor": "bit-bit_xor", "sameBool": "same_bit", "first-of": "first_some"}
 # kept: a dash that joins a name to an operator, as std's own
 KEPT = {"covered-++"} | set(CHOSEN.values())
-# a name given where another is imported, and one that the kit's script turned halfway
-ALIASES = {"firstVar": "first_var", "Goes_on": "GoesOn"}
+# names given where another is imported, and one that the kit's script turned halfway
+ALIASES = {"firstVar": "first_var", "childOf": "child_of", "Goes_on": "GoesOn"}
 
 DECLARED = re.compile(
     r"^\s*(?:(?:unfoldable|abbrev|pub|data|record|ruleset)\s+)*([^\s(){}:,;=]+)((?:\s+[({][^:]*:[^=]*)*)\s*:\s(.*)$"

@@ -22,7 +22,7 @@ use Rattle.sheet.specs.Sections.{Says, Reads}
 use Rattle.sheet.specs.declared.fault.SheetFault.{SheetFault}
 use Rattle.sheet.specs.declared.sheet.Sheet.{Sheet}
 use Rattle.sheet.specs.Trips.{ReadAsGiven, SameAsWritten}
-use Rattle.sheet.specs.Flaws.{unless, first_of, output_flaw}
+use Rattle.sheet.specs.Flaws.{unless, first_some, output_flaw}
 
 pub put_is : (xs ys bs : List ℕ) (at : ℕ) → ys ≡ bs → put_mid at (at + length bs - at) xs ys ≡ put xs at bs
 put_is xs ys bs at e =
@@ -140,7 +140,7 @@ start_outputs place after w v o si sg so se fits e before gs h =
       };
     }
 
-flaw_parts : (a b d : Bool) → first_of (unless a Signal) (first_of (unless b Name) (unless d Name)) ≡ None → (a ≡ true) × (b ≡ true) × (d ≡ true)
+flaw_parts : (a b d : Bool) → first_some (unless a Signal) (first_some (unless b Name) (unless d Name)) ≡ None → (a ≡ true) × (b ≡ true) × (d ≡ true)
 flaw_parts true true true e = (refl, refl, refl)
 flaw_parts true true false e = absurd (let z : ◌≡◌ {A = ℕ} 0 1 = cc in omega arith)
 flaw_parts true false d e = absurd (let z : ◌≡◌ {A = ℕ} 0 1 = cc in omega arith)

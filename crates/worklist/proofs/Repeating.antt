@@ -68,8 +68,8 @@ module _ {X : Type 0} where
   one_empty : (xs ys : List X) (y : X) (zs : List X) → xs ≡ ys → xs ≡ [] → ys ≡ y ∷ zs → ⊥
   one_empty xs ys y zs e p q = let z : ◌≡◌ {A = ℕ} 0 1 = cc in omega arith
 
-  first_of : (xs ys : List X) (x y : X) (us vs : List X) → xs ≡ ys → xs ≡ x ∷ us → ys ≡ y ∷ vs → x ≡ y
-  first_of xs ys x y us vs e p q = cc
+  first_item : (xs ys : List X) (x y : X) (us vs : List X) → xs ≡ ys → xs ≡ x ∷ us → ys ≡ y ∷ vs → x ≡ y
+  first_item xs ys x y us vs e p q = cc
 
   others_of : (xs ys : List X) (x y : X) (us vs : List X) → xs ≡ ys → xs ≡ x ∷ us → ys ≡ y ∷ vs → us ≡ vs
   others_of xs ys x y us vs e p q = cc
@@ -102,7 +102,7 @@ module _ {X : Type 0} where
       absurd (one_empty ys xs x xs' (sym (in_step es fs xs ys p q (rest_of None None (asked es) (asked fs) e)).1) j.0 h)
   in_step _ _ _ _ (takes {calls = es} {xs} {ys = xs'} (Some x) p h) (takes {calls = fs} {xs = ys} {ys = ys'} (Some y) q j) e =
       let t = in_step es fs xs ys p q (rest_of None None (asked es) (asked fs) e) in
-      let i = first_of xs ys x y xs' ys' t.1 h j in
+      let i = first_item xs ys x y xs' ys' t.1 h j in
       (λ k. take (Some (i k)) ∷ t.0 k, others_of xs ys x y xs' ys' t.1 h j)
 
   pub rings : Repeats {X = X} Queued Oldest

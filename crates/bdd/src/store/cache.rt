@@ -57,9 +57,9 @@ impl Table {
     }
 
     // Keeps a conjunction in the cache, in the place of another.
-    pub(super) fn remember(&mut self, f: Edge, g: Edge, res: Edge)
+    pub(super) fn remember(&mut self, f: Edge, g: Edge, answer: Edge)
         requires sound { Sound self.old }
-        requires right { Right (nodes_of self.old) (entry f g res self.old.stamp) }
+        requires right { Right (nodes_of self.old) (entry f g answer self.old.stamp) }
         ensures kept { Kept self.old self.new }
         ensures nodes { self.new.nodes ≡ self.old.nodes }
     {
@@ -68,7 +68,7 @@ impl Table {
         self.cache[k] = Entry {
             f,
             g,
-            result: res,
+            result: answer,
             stamp,
         };
     }

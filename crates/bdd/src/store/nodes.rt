@@ -1,6 +1,6 @@
 //! Nodes: a function that is chosen by one variable.
 ghost use Rattle.std.specs.Prelude.{◌≡◌};
-ghost use Rattle.bdd.specs.Diagram.{child as childOf};
+ghost use Rattle.bdd.specs.Diagram.{child as child_of};
 
 use crate::edges::Edge;
 
@@ -14,7 +14,7 @@ pub struct Node {
 
 // The edge that the node leads to where its variable has this value.
 pub(crate) fn child(n: Node, value: bool) -> Edge
-    ensures { result ≡ childOf n value }
+    ensures { result ≡ child_of n value }
 {
     if value { n.high } else { n.low }
 }

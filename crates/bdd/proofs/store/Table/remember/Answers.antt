@@ -14,7 +14,7 @@ returns c =
     let es : List Entry = vec_items c.args.self.now.cache in
     let k : ℕ = c.spot-k.result in
     let s = c.requires.sound in
-    let e : Entry = entry c.args.f c.args.g c.args.res c.args.self.now.stamp in
+    let e : Entry = entry c.args.f c.args.g c.args.answer c.args.self.now.stamp in
     let lt : k < length es = search rules in
     record {
       kept = record {
