@@ -18,12 +18,11 @@ import re
 import sys
 
 # names that would fall together with another in the same text: the lemmas on `bit` have its name first, as std's have
-# (first-of would be a tactic's name)
-CHOSEN = {"bit-and": "bit-bit_and", "bit-xor": "bit-bit_xor", "sameBool": "same_bit", "first-of": "first_some"}
+CHOSEN = {"bit-and": "bit-bit_and", "bit-xor": "bit-bit_xor", "sameBool": "same_bit"}
 # kept: a dash that joins a name to an operator, as std's own
 KEPT = {"covered-++"} | set(CHOSEN.values())
-# names given where another is imported, and one that the kit's script turned halfway
-ALIASES = {"firstVar": "first_var", "childOf": "child_of", "Goes_on": "GoesOn"}
+# names given where another is imported; one that the kit's script turned halfway, and one that is a tactic's name today
+ALIASES = {"firstVar": "first_var", "childOf": "child_of", "Goes_on": "GoesOn", "first_of": "first_some"}
 
 DECLARED = re.compile(
     r"^\s*(?:(?:unfoldable|abbrev|pub|data|record|ruleset)\s+)*([^\s(){}:,;=]+)((?:\s+[({][^:]*:[^=]*)*)\s*:\s(.*)$"
@@ -41,7 +40,7 @@ def sources():
         for path in sorted(glob.glob("crates/**/*." + kind, recursive=True)):
             if "/out/" not in path:
                 yield path
-    yield from sorted(glob.glob("docs/*.md"))
+    yield from sorted(set(glob.glob("docs/*.md")) - {"docs/PORT.md"})  # which names old and new
     yield "README.md"
 
 
