@@ -1,30 +1,34 @@
-//! Why a call is refused.
+//! Why a call is refused, and which refusal the errors of the layers below become.
 ghost use Rattle.std.specs.Prelude.{◌≡◌};
 ghost use Rattle.comparer.specs.Refusals.{number_of};
+ghost use Rattle.comparer.specs.declared.refusal.Refusal.TheVariants.{GateKind, Memory};
 
+use gates::UnknownKind;
+use std::alloc::AllocError;
+use std::error::Error;
 use std::fmt;
 
 /// Why a call was refused. Each case has a number; `Memory` has none of the product's numbers and is given 0.
 #[derive(Clone, Copy, PartialEq, Eq, Debug)]
 pub enum Refusal {
-    /// 1: opening with a number of inputs that is not 1 to 64.
-    InputCount,
-    /// 2: a net of a vertex that is not in use.
-    NetNotInUse,
-    /// 3: a gate kind that is not 1 to 9.
-    GateKind,
-    /// 4: an operand that the kind does not read, and that is not 0.
-    UnusedOperand,
-    /// 11: an input code with a bit at n or above.
-    CodeTooWide,
-    /// 20: opening with a table shorter than n + 1 or longer than 4,096.
-    TableLength,
-    /// 21: fewer than three vertices left.
-    VerticesLeft,
-    /// 23: workspace with fewer words than vertices in use.
-    Workspace,
-    /// 0: no memory for the table.
-    Memory,
+    /// Opening with a number of inputs that is not 1 to 64.
+    InputCount = 1,
+    /// A net of a vertex that is not in use.
+    NetNotInUse = 2,
+    /// A gate kind that is not 1 to 9.
+    GateKind = 3,
+    /// An operand that the kind does not read, and that is not 0.
+    UnusedOperand = 4,
+    /// An input code with a bit at n or above.
+    CodeTooWide = 11,
+    /// Opening with a table shorter than n + 1 or longer than 4,096.
+    TableLength = 20,
+    /// Fewer than three vertices left.
+    VerticesLeft = 21,
+    /// Workspace with fewer words than vertices in use.
+    Workspace = 23,
+    /// No memory for the table.
+    Memory = 0,
 }
 
 impl Refusal {
@@ -32,17 +36,7 @@ impl Refusal {
     pub fn number(self) -> u8
         ensures { result ≡ number_of self }
     {
-        match self {
-            Refusal::InputCount => 1,
-            Refusal::NetNotInUse => 2,
-            Refusal::GateKind => 3,
-            Refusal::UnusedOperand => 4,
-            Refusal::CodeTooWide => 11,
-            Refusal::TableLength => 20,
-            Refusal::VerticesLeft => 21,
-            Refusal::Workspace => 23,
-            Refusal::Memory => 0,
-        }
+        self as u8
     }
 
     /// The refusal in words.
@@ -67,5 +61,23 @@ impl fmt::Display for Refusal {
         let number = self.number();
         let words = self.words();
         write!(f, "{number}: {words}")
+    }
+}
+
+impl Error for Refusal {}
+
+impl From<UnknownKind> for Refusal {
+    ghost from_gives = { λ _ refusal. refusal ≡ GateKind };
+
+    fn from(_unknown: UnknownKind) -> Refusal {
+        Self::GateKind
+    }
+}
+
+impl From<AllocError> for Refusal {
+    ghost from_gives = { λ _ refusal. refusal ≡ Memory };
+
+    fn from(_error: AllocError) -> Refusal {
+        Self::Memory
     }
 }

@@ -1,6 +1,10 @@
 //! A gate kind as a type, and the two tests on a kind's number that tell which operands it reads.
-ghost use Rattle.std.specs.Prelude.{◌≡◌, Bool, true, false, MatchOption};
-ghost use Rattle.gates.specs.Kinds.{number_of, is_kind, reads_b, reads_c, function_of};
+ghost use Rattle.std.specs.Prelude.{◌≡◌};
+ghost use Rattle.gates.specs.Kinds.{number_of, reads_b, reads_c, function_of};
+ghost use Rattle.gates.specs.Numbers.{Names};
+
+use std::error::Error;
+use std::fmt;
 
 /// A gate kind. Operands are a, b and c; the inverse of a value is its negation.
 #[derive(Clone, Copy, PartialEq, Eq, Debug)]
@@ -16,32 +20,50 @@ pub enum Kind {
     Mux = 9,
 }
 
-impl Kind {
-    /// The kind that a number names; none for a number that is not 1 to 9.
-    pub fn from_number(number: u8) -> Option<Kind>
-        ensures { MatchOption result (is_kind number ≡ false) (λ k. (is_kind number ≡ true) × (number_of k ≡ number)) }
-    {
+/// A number that names no gate kind.
+#[derive(Clone, Copy, PartialEq, Eq, Debug)]
+pub struct UnknownKind(pub u8);
+
+impl TryFrom<u8> for Kind {
+    type Error = UnknownKind;
+
+    ghost try_from_gives = { Names };
+
+    /// The kind that a number names, or the number back where it is not 1 to 9.
+    fn try_from(number: u8) -> Result<Self, UnknownKind> {
         match number {
-            1 => Some(Kind::And),
-            2 => Some(Kind::Or),
-            3 => Some(Kind::Nand),
-            4 => Some(Kind::Nor),
-            5 => Some(Kind::Xor),
-            6 => Some(Kind::Xnor),
-            7 => Some(Kind::Not),
-            8 => Some(Kind::Buf),
-            9 => Some(Kind::Mux),
-            _ => None,
+            1 => Ok(Kind::And),
+            2 => Ok(Kind::Or),
+            3 => Ok(Kind::Nand),
+            4 => Ok(Kind::Nor),
+            5 => Ok(Kind::Xor),
+            6 => Ok(Kind::Xnor),
+            7 => Ok(Kind::Not),
+            8 => Ok(Kind::Buf),
+            9 => Ok(Kind::Mux),
+            _ => Err(UnknownKind(number)),
         }
     }
+}
+
+impl From<Kind> for u8 {
+    ghost from_gives = { λ kind number. number ≡ number_of kind };
 
     /// The number of a kind.
-    pub fn number(self) -> u8
-        ensures { result ≡ number_of self }
-    {
-        self as u8
+    fn from(kind: Kind) -> u8 {
+        kind as u8
     }
+}
 
+impl fmt::Display for UnknownKind {
+    fn fmt<W: fmt::Write>(&self, f: &mut fmt::Formatter<W>) -> fmt::Result {
+        write!(f, "{} is no gate kind, which are 1 to 9", self.0)
+    }
+}
+
+impl Error for UnknownKind {}
+
+impl Kind {
     /// The Boolean function of a kind: the value of its gate where the operands have these values.
     pub fn value(self, a: bool, b: bool, c: bool) -> bool
         ensures { result ≡ function_of self a b c }
@@ -59,6 +81,9 @@ impl Kind {
         }
     }
 }
+
+// The two tests take a number and not a `Kind`, as records and calls do that refuse a wrong kind by its number: a narrower
+// type would ask more of their callers.
 
 /// Whether the kind with this number reads operand b: all but NOT and BUF do.
 pub fn reads_b(number: u8) -> bool

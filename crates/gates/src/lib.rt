@@ -4,4 +4,4 @@
 
 mod kind;
 
-pub use kind::{Kind, reads_b, reads_c};
+pub use kind::{Kind, UnknownKind, reads_b, reads_c};

@@ -1,8 +1,11 @@
 //! The calls that a script can make, and how a line is read.
+use gates::Kind;
+use std::error::Error;
 use std::fmt;
-use std::str::SplitWhitespace;
+use std::str::{FromStr, SplitWhitespace};
 
-/// A call as a line of the script has it.
+/// A call as a line of the script has it. The kind and the nets are numbers as they are written, right or wrong: the session
+/// refuses those that are wrong.
 #[derive(Clone, Copy, Debug)]
 pub enum Command {
     Open { inputs: usize, places: usize },
@@ -30,51 +33,50 @@ impl fmt::Display for Unreadable {
     }
 }
 
-/// The call of a line without comment; none for a line without words.
-pub fn read(line: &str) -> Result<Option<Command>, Unreadable> {
-    let mut words = line.split_whitespace();
-    let Some(name) = words.next() else {
-        return Ok(None);
-    };
-    let command = if name == "open" {
-        read_open(&mut words)?
-    } else if name == "gate" {
-        read_gate(&mut words)?
-    } else if name == "value" {
-        read_value(&mut words)?
-    } else {
-        return Err(Unreadable::Call);
-    };
-    if words.next().is_some() {
-        return Err(Unreadable::Extra);
+impl Error for Unreadable {}
+
+impl FromStr for Command {
+    type Err = Unreadable;
+
+    /// The call of a line without comment.
+    fn from_str(line: &str) -> Result<Self, Unreadable> {
+        let mut words = line.split_whitespace();
+        let command = match words.next() {
+            Some("open") => open(&mut words)?,
+            Some("gate") => gate(&mut words)?,
+            Some("value") => value(&mut words)?,
+            _ => return Err(Unreadable::Call),
+        };
+        match words.next() {
+            Some(_) => Err(Unreadable::Extra),
+            None => Ok(command),
+        }
     }
-    Ok(Some(command))
 }
 
-fn read_open(words: &mut SplitWhitespace<'_>) -> Result<Command, Unreadable> {
-    let inputs = number(words, "the number of inputs")?;
-    let places = number(words, "the number of places")?;
+fn open(words: &mut SplitWhitespace<'_>) -> Result<Command, Unreadable> {
+    let inputs = number(words.next(), "the number of inputs")?;
+    let places = number(words.next(), "the number of places")?;
     Ok(Command::Open {
         inputs: inputs as usize,
         places: places as usize,
     })
 }
 
-fn read_gate(words: &mut SplitWhitespace<'_>) -> Result<Command, Unreadable> {
-    let kind = kind(words)?;
-    let a = net(words.next(), Unreadable::Missing("operand a"))?;
-    let b = operand(words.next())?;
-    let c = operand(words.next())?;
+fn gate(words: &mut SplitWhitespace<'_>) -> Result<Command, Unreadable> {
+    let kind = kind(words.next())?;
+    let a = words.next().ok_or(Unreadable::Missing("operand a"))?;
+    let a = parsed(a, "a net")?;
+    let b = parsed(words.next().unwrap_or("0"), "an operand")?;
+    let c = parsed(words.next().unwrap_or("0"), "an operand")?;
     Ok(Command::Gate { kind, a, b, c })
 }
 
-fn read_value(words: &mut SplitWhitespace<'_>) -> Result<Command, Unreadable> {
-    let net = net(words.next(), Unreadable::Missing("the net"))?;
-    let code = number(words, "the code")?;
-    let words = match words.next() {
-        Some(word) => value_of(word).ok_or(Unreadable::Wrong("the number of words"))?,
-        None => 4096,
-    };
+fn value(words: &mut SplitWhitespace<'_>) -> Result<Command, Unreadable> {
+    let net = words.next().ok_or(Unreadable::Missing("the net"))?;
+    let net = parsed(net, "a net")?;
+    let code = number(words.next(), "the code")?;
+    let words = number(words.next().or(Some("4096")), "the number of words")?;
     Ok(Command::Value {
         net,
         code,
@@ -82,56 +84,41 @@ fn read_value(words: &mut SplitWhitespace<'_>) -> Result<Command, Unreadable> {
     })
 }
 
-/// The next word as a number.
-fn number(words: &mut SplitWhitespace<'_>, what: &'static str) -> Result<u64, Unreadable> {
-    let Some(word) = words.next() else {
-        return Err(Unreadable::Missing(what));
-    };
-    value_of(word).ok_or(Unreadable::Wrong(what))
+/// A word as a number of the type that is wanted.
+fn parsed<T: FromStr>(word: &str, what: &'static str) -> Result<T, Unreadable>
+where
+    T::Err: Drop,
+{
+    word.parse::<T>().map_err(|_| Unreadable::Wrong(what))
 }
 
-/// A number in decimal, or in hexadecimal after 0x.
-fn value_of(word: &str) -> Option<u64> {
+/// A word that has to be there as a number in decimal, or in hexadecimal after 0x.
+fn number(word: Option<&str>, what: &'static str) -> Result<u64, Unreadable> {
+    let word = word.ok_or(Unreadable::Missing(what))?;
     match word.strip_prefix("0x") {
-        Some(digits) => u64::from_str_radix(digits, 16).ok(),
-        None => word.parse::<u64>().ok(),
+        Some(digits) => u64::from_str_radix(digits, 16).map_err(|_| Unreadable::Wrong(what)),
+        None => parsed(word, what),
     }
 }
 
-/// A net that has to be there.
-fn net(word: Option<&str>, missing: Unreadable) -> Result<u16, Unreadable> {
-    match word {
-        Some(word) => word.parse::<u16>().ok().ok_or(Unreadable::Wrong("a net")),
-        None => Err(missing),
-    }
-}
-
-/// A net that is 0 where it is left out.
-fn operand(word: Option<&str>) -> Result<u16, Unreadable> {
-    match word {
-        Some(word) => word
-            .parse::<u16>()
-            .ok()
-            .ok_or(Unreadable::Wrong("an operand")),
-        None => Ok(0),
-    }
-}
-
-const KINDS: [&str; 9] = [
-    "and", "or", "nand", "nor", "xor", "xnor", "not", "buf", "mux",
+/// The gate kinds by name.
+const KINDS: [(&str, Kind); 9] = [
+    ("and", Kind::And),
+    ("or", Kind::Or),
+    ("nand", Kind::Nand),
+    ("nor", Kind::Nor),
+    ("xor", Kind::Xor),
+    ("xnor", Kind::Xnor),
+    ("not", Kind::Not),
+    ("buf", Kind::Buf),
+    ("mux", Kind::Mux),
 ];
 
-/// A gate kind by its number or its name.
-fn kind(words: &mut SplitWhitespace<'_>) -> Result<u8, Unreadable> {
-    let Some(word) = words.next() else {
-        return Err(Unreadable::Missing("the kind"));
-    };
-    let mut number = 1u8;
-    for name in KINDS {
-        if word == name {
-            return Ok(number);
-        }
-        number = number.saturating_add(1);
+/// The number of a gate kind that is given by number or by name.
+fn kind(word: Option<&str>) -> Result<u8, Unreadable> {
+    let word = word.ok_or(Unreadable::Missing("the kind"))?;
+    match KINDS.iter().find(|(name, _)| *name == word) {
+        Some((_, kind)) => Ok(u8::from(*kind)),
+        None => parsed(word, "the kind"),
     }
-    word.parse::<u8>().ok().ok_or(Unreadable::Wrong("the kind"))
 }

@@ -25,19 +25,11 @@ A script has a call a line; what follows a # is a comment.
                                 workspace, 4096 where none is written
 Net 2v is vertex v, and net 2v + 1 its inverse; vertex 0 is false, and vertex i + 1 is input i.";
 
-fn replay<R: Read>(rt: HostRuntime, input: R) -> io::Result<()>
-where
-    R: Drop,
-{
-    let mut reader = BufReader::new(rt.alloc(), input)?;
-    let mut line = String::new(rt.alloc());
+fn replay<R: Read + Drop>(rt: HostRuntime, input: R) -> io::Result<()> {
+    let lines = BufReader::new(rt.alloc(), input)?.lines(rt.alloc());
     let mut replay = Replay::new(rt.alloc())?;
-    for number in 1..u64::MAX {
-        line.clear();
-        if reader.read_line(&mut line)? == 0 {
-            break;
-        }
-        replay.line(rt, number, line.as_str())?;
+    for (number, line) in (1..u64::MAX).zip(lines) {
+        replay.line(rt, number, line?.as_str())?;
     }
     Ok(())
 }

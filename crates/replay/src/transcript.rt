@@ -1,13 +1,20 @@
 //! The session that a script runs on, and what is printed of each line.
-use crate::command;
 use crate::command::Command;
 use aig::Net;
-use comparer::Session;
+use comparer::{Refusal, Session};
 use std::alloc::{AllocError, Global};
 use std::io;
 
 /// The most words of workspace that a line can lend.
 const WORDS: usize = 4096;
+
+/// What a call that is not refused answers.
+#[derive(Clone, Copy, Debug)]
+enum Answer {
+    Opened,
+    Net(Net),
+    Bit(bool),
+}
 
 /// A session under replay, with its workspace.
 #[derive(Drop)]
@@ -43,42 +50,44 @@ impl Replay {
 
     /// Runs the call of a line and prints it with its answer; a line without a call is left out.
     fn call(&mut self, rt: HostRuntime, number: u64, call: &str) -> io::Result<()> {
-        match command::read(call) {
-            Ok(Some(command)) => {
+        if call.is_empty() {
+            return Ok(());
+        }
+        match call.parse::<Command>() {
+            Ok(command) => {
                 print!(rt; "{call} -> ")?;
                 self.answer(rt, command)
             }
-            Ok(None) => Ok(()),
             Err(why) => print!(rt; "line {number} cannot be read: {call}: {why}"),
         }
     }
 
     /// Makes a call and prints its answer.
     fn answer(&mut self, rt: HostRuntime, command: Command) -> io::Result<()> {
-        match command {
-            Command::Open { inputs, places } => match self
-                .session
-                .open(rt.alloc(), inputs, places)
-            {
-                Ok(()) => print!(rt; "opened"),
-                Err(why) => print!(rt; "refused {why}"),
-            },
-            Command::Gate { kind, a, b, c } => match self
-                .session
-                .gate(kind, Net(a), Net(b), Net(c))
-            {
-                Ok(Net(net)) => print!(rt; "net {net}"),
-                Err(why) => print!(rt; "refused {why}"),
-            },
-            Command::Value { net, code, words } => match self.value(net, code, words) {
-                Ok(bit) => print!(rt; "{}", bit as u8),
-                Err(why) => print!(rt; "refused {why}"),
-            },
+        match self.make(rt.alloc(), command) {
+            Ok(Answer::Opened) => print!(rt; "opened"),
+            Ok(Answer::Net(Net(net))) => print!(rt; "net {net}"),
+            Ok(Answer::Bit(bit)) => print!(rt; "{}", u8::from(bit)),
+            Err(why) => print!(rt; "refused {why}"),
         }
     }
 
-    fn value(&mut self, net: u16, code: u64, words: usize) -> Result<bool, comparer::Refusal> {
-        let lent = words.min(self.words.len());
-        self.session.value(Net(net), code, &mut self.words[0..lent])
+    /// Makes a call.
+    fn make(&mut self, heap: Global, command: Command) -> Result<Answer, Refusal> {
+        match command {
+            Command::Open { inputs, places } => {
+                self.session.open(heap, inputs, places)?;
+                Ok(Answer::Opened)
+            }
+            Command::Gate { kind, a, b, c } => {
+                let net = self.session.gate(kind, Net(a), Net(b), Net(c))?;
+                Ok(Answer::Net(net))
+            }
+            Command::Value { net, code, words } => {
+                let lent = words.min(self.words.len());
+                let bit = self.session.value(Net(net), code, &mut self.words[..lent])?;
+                Ok(Answer::Bit(bit))
+            }
+        }
     }
 }

@@ -9,13 +9,12 @@ use aig::Net;
 use gates::{Kind, reads_b, reads_c};
 
 impl Session {
+    // The kind is a number, since a number that names no kind is one of this call's refusals.
     /// The net of a gate: its kind by number, and three operands, of which those that the kind does not read are 0.
     pub fn gate(&mut self, kind: u8, a: Net, b: Net, c: Net) -> Result<Net, Refusal>
         ensures { Gated self.old kind a b c result self.new }
     {
-        let Some(known) = Kind::from_number(kind) else {
-            return Err(Refusal::GateKind);
-        };
+        let known = Kind::try_from(kind)?;
         self.check_operand(true, a)?;
         self.check_operand(reads_b(kind), b)?;
         self.check_operand(reads_c(kind), c)?;

@@ -29,13 +29,8 @@ impl Session {
         if places < inputs + 1 || places > 4096 {
             return Err(Refusal::TableLength);
         }
-        match Graph::new(heap, inputs, places) {
-            Ok(graph) => {
-                self.graph = graph;
-                Ok(())
-            }
-            Err(_) => Err(Refusal::Memory),
-        }
+        self.graph = Graph::new(heap, inputs, places)?;
+        Ok(())
     }
 
     /// How many inputs the session has.
