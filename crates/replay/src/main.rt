@@ -6,10 +6,9 @@
 mod command;
 mod transcript;
 
-use comparer::Session;
 use std::fs::File;
 use std::io::{BufRead, BufReader, Read};
-use std::{env, fs, io};
+use std::{env, io};
 use transcript::Replay;
 
 const HELP: &str = "replay: runs a script of calls on one session and prints each answer
