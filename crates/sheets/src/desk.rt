@@ -1,11 +1,12 @@
 //! A script line by line: a place, a writer over it, and the sheet that was closed last.
 use crate::filling::{Measures, fill};
-use crate::hex::{bytes_of, digits_of};
-use crate::line::{Line, line_of};
-use crate::stage::{Outcome, Stage};
-use crate::{listing, stage};
+use crate::line::Line;
+use crate::listing;
+use crate::stage::{Stage, Unwritten};
+use hex::FromHexError;
 use sheet::writer::{Closed, Opened};
-use sheet::{Gate, Sheet, copy};
+use sheet::{Sheet, copy};
+use std::mem;
 
 /// The place of the sheet that is written, its writer, and the bytes of the last sheet.
 #[derive(Drop)]
@@ -17,19 +18,6 @@ pub struct Desk {
 
 /// The size of a place unless a line says another: more than the largest sheet takes.
 const SIZE: usize = 16384;
-
-fn tell(rt: &HostRuntime, outcome: Outcome) -> anyhow::Result<()> {
-    match outcome {
-        Outcome::Done => Ok(()),
-        Outcome::Refused(refusal) => listing::refusal(rt, refusal),
-        Outcome::Misplaced => {
-            println!(rt;
-                "out of order: list inputs, then gates, then outputs; after closing start another writer"
-            )?;
-            Ok(())
-        }
-    }
-}
 
 impl Desk {
     /// A desk with a place of so many bytes and no sheet.
@@ -43,48 +31,31 @@ impl Desk {
         })
     }
 
-    fn take_stage(&mut self) -> Stage {
-        std::mem::replace(&mut self.stage, Stage::Opened(Opened))
-    }
-
     fn keep(&mut self, rt: &HostRuntime, sheet: Closed) -> anyhow::Result<()> {
         self.sheet = sheet.bytes(self.place.as_slice()).to_vec(rt.alloc())?;
         Ok(())
     }
 
-    fn inputs(&mut self, rt: &HostRuntime, count: u16) -> anyhow::Result<()> {
-        let (after, outcome) = stage::inputs(self.take_stage(), self.place.as_mut_slice(), count);
-        self.stage = after;
-        tell(rt, outcome)
-    }
-
-    fn gate(&mut self, rt: &HostRuntime, gate: Gate) -> anyhow::Result<()> {
-        let (after, outcome) = stage::gate(self.take_stage(), self.place.as_mut_slice(), gate);
-        self.stage = after;
-        tell(rt, outcome)
-    }
-
-    fn output(&mut self, rt: &HostRuntime, signal: u16, name: &str) -> anyhow::Result<()> {
-        let (after, outcome) = stage::output(
-            self.take_stage(),
-            self.place.as_mut_slice(),
-            signal,
-            name.as_bytes(),
-        );
-        self.stage = after;
-        tell(rt, outcome)
-    }
-
-    // Closes the sheet, keeps its bytes and prints them.
-    fn close(&mut self, rt: &HostRuntime) -> anyhow::Result<()> {
-        let (after, outcome) = stage::close(self.take_stage(), self.place.as_slice());
-        if let (Stage::Closed(sheet), Outcome::Done) = (&after, outcome) {
-            self.keep(rt, *sheet)?;
-            let digits = digits_of(rt.alloc(), self.sheet.as_slice())?;
-            println!(rt; "sheet {digits}")?;
+    // Takes a step of the writer, which stays as it was where the step is a mistake. The bytes of a closed sheet are kept and printed.
+    fn step<F>(&mut self, rt: &HostRuntime, step: F) -> anyhow::Result<()>
+    where
+        F: FnOnce(Stage, &mut [u8]) -> Result<Stage, Unwritten>,
+        requires { F.IsAlwaysCallable step }
+    {
+        let stage = mem::replace(&mut self.stage, Stage::Opened(Opened));
+        match step(stage, self.place.as_mut_slice()) {
+            Ok(Stage::Closed(sheet)) => {
+                self.stage = Stage::Closed(sheet);
+                self.keep(rt, sheet)?;
+                println!(rt; "sheet {}", hex::encode(rt.alloc(), self.sheet.as_slice())?)?;
+            }
+            Ok(next) => self.stage = next,
+            Err(unwritten) => {
+                self.stage = unwritten.stage;
+                println!(rt; "{}", unwritten.mistake)?;
+            }
         }
-        self.stage = after;
-        tell(rt, outcome)
+        Ok(())
     }
 
     // Writes a sheet of these measures by another writer, keeps its bytes and reads it back.
@@ -98,7 +69,10 @@ impl Desk {
                 println!(rt; "written: {size} bytes")?;
                 listing::summary(rt, self.sheet.as_slice())
             }
-            Err(refusal) => listing::refusal(rt, refusal),
+            Err(refusal) => {
+                println!(rt; "refused {refusal}")?;
+                Ok(())
+            }
         }
     }
 
@@ -143,29 +117,18 @@ impl Desk {
                 *self = Desk::new(rt, size as usize)?;
                 Ok(())
             }
-            Line::Inputs(count) => self.inputs(rt, count),
-            Line::Gate(record) => self.gate(rt, record),
-            Line::Output(signal, name) => self.output(rt, signal, name),
-            Line::Close => self.close(rt),
-            Line::Full(inputs, gates, outputs, length) => self.full(
-                rt,
-                Measures {
-                    inputs,
-                    gates,
-                    outputs,
-                    length,
-                },
-            ),
+            Line::Inputs(count) => self.step(rt, |stage, place| stage.inputs(place, count)),
+            Line::Gate(gate) => self.step(rt, |stage, place| stage.gate(place, gate)),
+            Line::Output(signal, name) => self.step(rt, |stage, place| {
+                stage.output(place, signal, name.as_bytes())
+            }),
+            Line::Close => self.step(rt, |stage, place| stage.close(place)),
+            Line::Full(measures) => self.full(rt, measures),
             Line::Read(digits) => read(rt, digits),
             Line::Copy => self.copy(rt),
             Line::Cuts => self.cuts(rt),
             Line::Set(place, value) => self.set(rt, place as usize, value),
             Line::Extra(value) => self.extra(rt, value),
-            Line::Nothing => Ok(()),
-            Line::Unknown => {
-                println!(rt; "no such line")?;
-                Ok(())
-            }
         }
     }
 }
@@ -181,14 +144,18 @@ fn copied(rt: &HostRuntime, bytes: &[u8], place: &mut [u8]) -> anyhow::Result<()
             println!(rt; "copied, the same bytes: {same}")?;
             Ok(())
         }
-        Err(refusal) => listing::refusal(rt, refusal),
+        Err(refusal) => {
+                println!(rt; "refused {refusal}")?;
+                Ok(())
+            }
     }
 }
 
 fn read(rt: &HostRuntime, digits: &str) -> anyhow::Result<()> {
-    match bytes_of(rt.alloc(), digits)? {
-        Some(bytes) => listing::list(rt, bytes.as_slice()),
-        None => {
+    match hex::decode(rt.alloc(), digits) {
+        Ok(bytes) => listing::list(rt, bytes.as_slice()),
+        Err(FromHexError::OutOfMemory) => Err(FromHexError::OutOfMemory.into()),
+        Err(_) => {
             println!(rt; "not hexadecimal")?;
             Ok(())
         }
@@ -201,7 +168,11 @@ pub fn follow(rt: &HostRuntime) -> anyhow::Result<()> {
     for text in rt.lines(rt.alloc()) {
         let text = text?;
         println!(rt; "> {text}")?;
-        desk.run(rt, line_of(text.as_str()))?;
+        match Line::read(text.as_str()) {
+            Ok(Some(line)) => desk.run(rt, line)?,
+            Ok(None) => {}
+            Err(unknown) => println!(rt; "{unknown}")?,
+        }
     }
     Ok(())
 }

@@ -11,82 +11,48 @@ pub struct Measures {
     pub length: u16,
 }
 
-fn put_digit(name: &mut [u8], place: usize, digit: u16) {
-    if place < name.len() {
-        name[place] = b'a' + (digit & 15) as u8;
+/// The AND of the first two inputs.
+const AND: Gate = Gate {
+    kind: 1,
+    a: 2,
+    b: 3,
+    c: 0,
+};
+
+// Makes the name number `k`: letters for its digits at the base 16, the lowest first.
+fn number_name(name: &mut [u8], k: u16) {
+    for (byte, digits) in name.iter_mut().zip([k, k >> 4, k >> 8]) {
+        *byte = b'a' + (digits & 15) as u8;
     }
 }
 
-// The name number `k`, in letters for its digits at the base 16, the lowest first.
-fn numbered(name: &mut [u8], k: u16) {
-    put_digit(name, 0, k);
-    put_digit(name, 1, k >> 4);
-    put_digit(name, 2, k >> 8);
-}
-
-fn fill_gates(writer: Gates, place: &mut [u8], count: u16) -> Result<Gates, Refusal> {
-    let mut writer = writer;
+fn fill_gates(mut writer: Gates, place: &mut [u8], count: u16) -> Result<Gates, Refusal> {
     for _ in 0..count {
-        writer = match writer.gate(
-            place,
-            Gate {
-                kind: 1,
-                a: 2,
-                b: 3,
-                c: 0,
-            },
-        ) {
-            Ok(next) => next,
-            Err(back) => return Err(back.1),
-        };
+        writer = writer.gate(place, AND)?;
     }
     Ok(writer)
 }
 
+// All outputs but the first.
 fn fill_outputs(
-    writer: Outputs,
+    mut writer: Outputs,
     place: &mut [u8],
     name: &mut [u8],
     count: u16,
 ) -> Result<Outputs, Refusal> {
-    let mut writer = writer;
     for k in 1..count {
-        numbered(name, k);
-        writer = match writer.output(place, 2, name) {
-            Ok(next) => next,
-            Err(back) => return Err(back.1),
-        };
+        number_name(name, k);
+        writer = writer.output(place, 2, name)?;
     }
     Ok(writer)
 }
 
-fn started(place: &mut [u8], inputs: u16) -> Result<Gates, Refusal> {
-    match Opened.inputs(place, inputs) {
-        Ok(next) => Ok(next),
-        Err(back) => Err(back.1),
-    }
-}
-
-fn named(writer: Gates, place: &mut [u8], name: &mut [u8]) -> Result<Outputs, Refusal> {
-    numbered(name, 0);
-    match writer.output(place, 2, name) {
-        Ok(next) => Ok(next),
-        Err(back) => Err(back.1),
-    }
-}
-
-fn closed(writer: Outputs, place: &[u8]) -> Result<Closed, Refusal> {
-    match writer.close(place) {
-        Ok(sheet) => Ok(sheet),
-        Err(back) => Err(back.1),
-    }
-}
-
 /// Writes a sheet of these measures, or gives the first refusal.
 pub fn fill(place: &mut [u8], name: &mut [u8], measures: Measures) -> Result<Closed, Refusal> {
-    let writer = started(place, measures.inputs)?;
+    let writer = Opened.inputs(place, measures.inputs)?;
     let writer = fill_gates(writer, place, measures.gates)?;
-    let writer = named(writer, place, name)?;
+    number_name(name, 0);
+    let writer = writer.output(place, 2, name)?;
     let writer = fill_outputs(writer, place, name, measures.outputs)?;
-    closed(writer, place)
+    Ok(writer.close(place)?)
 }

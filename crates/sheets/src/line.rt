@@ -1,7 +1,11 @@
 //! The lines of a script, and how each is read.
+use crate::filling::Measures;
 use sheet::Gate;
+use std::error::Error;
+use std::fmt;
+use std::str::{FromStr, SplitWhitespace};
 
-/// One line of a script.
+/// One line of a script that asks for something.
 #[derive(Clone, Copy)]
 pub enum Line<'a> {
     /// `place N`: another writer, over a place of N bytes.
@@ -15,7 +19,7 @@ pub enum Line<'a> {
     /// `close`: prints the bytes.
     Close,
     /// `full INPUTS GATES OUTPUTS LENGTH`: writes so many of each, with names of so many bytes, and reads the sheet back.
-    Full(u16, u16, u16, u16),
+    Full(Measures),
     /// `read HEX`: lists what the bytes say, or their fault.
     Read(&'a str),
     /// `copy`: the last sheet, written anew through the writer.
@@ -26,100 +30,74 @@ pub enum Line<'a> {
     Set(u16, u8),
     /// `extra BYTE`: the closed sheet with a byte more.
     Extra(u8),
-    /// An empty line, or one that begins with `#`.
-    Nothing,
-    /// Anything else.
-    Unknown,
 }
 
-fn number(word: Option<&str>) -> Option<u16> {
-    word?.parse::<u16>().ok()
-}
+/// A line that is none of these.
+#[derive(Clone, Copy, Debug)]
+pub struct NoSuchLine;
 
-fn place<'a>(size: &'a str) -> Option<Line<'a>> {
-    Some(Line::Place(number(Some(size))?))
-}
-
-fn inputs<'a>(count: &'a str) -> Option<Line<'a>> {
-    Some(Line::Inputs(number(Some(count))?))
-}
-
-fn gate<'a>(
-    kind: &'a str,
-    a: Option<&'a str>,
-    b: Option<&'a str>,
-    c: Option<&'a str>,
-) -> Option<Line<'a>> {
-    let kind = kind.parse::<u8>().ok()?;
-    let a = number(a)?;
-    let b = number(b)?;
-    let c = number(c)?;
-    Some(Line::Gate(Gate { kind, a, b, c }))
-}
-
-fn output<'a>(signal: &'a str, name: Option<&'a str>) -> Option<Line<'a>> {
-    let signal = number(Some(signal))?;
-    Some(Line::Output(signal, name.unwrap_or("")))
-}
-
-fn full<'a>(
-    inputs: &'a str,
-    gates: Option<&'a str>,
-    outputs: Option<&'a str>,
-    length: Option<&'a str>,
-) -> Option<Line<'a>> {
-    let inputs = number(Some(inputs))?;
-    let gates = number(gates)?;
-    let outputs = number(outputs)?;
-    let length = number(length)?;
-    Some(Line::Full(inputs, gates, outputs, length))
-}
-
-fn set<'a>(place: &'a str, value: Option<&'a str>) -> Option<Line<'a>> {
-    let place = number(Some(place))?;
-    let value = value?.parse::<u8>().ok()?;
-    Some(Line::Set(place, value))
-}
-
-fn extra<'a>(value: &'a str) -> Option<Line<'a>> {
-    let value = value.parse::<u8>().ok()?;
-    Some(Line::Extra(value))
-}
-
-fn single<'a>(first: &'a str) -> Line<'a> {
-    match first {
-        "close" => Line::Close,
-        "copy" => Line::Copy,
-        "cuts" => Line::Cuts,
-        _ => Line::Unknown,
+impl fmt::Display for NoSuchLine {
+    fn fmt<W: fmt::Write>(&self, f: &mut fmt::Formatter<W>) -> fmt::Result {
+        write!(f, "no such line")
     }
 }
 
-/// The line that a text is.
-pub fn line_of<'a>(text: &'a str) -> Line<'a> {
-    let mut words = text.split_whitespace();
-    let Some(first) = words.next() else {
-        return Line::Nothing;
-    };
-    if first.starts_with('#') {
-        return Line::Nothing;
+impl Error for NoSuchLine {}
+
+impl<'a> Line<'a> {
+    /// What a line asks for; nothing, where it is empty or begins with `#`.
+    pub fn read(text: &'a str) -> Result<Option<Line<'a>>, NoSuchLine> {
+        let mut words = text.split_whitespace();
+        match words.next() {
+            None => Ok(None),
+            Some(first) if first.starts_with('#') => Ok(None),
+            Some(first) => Ok(Some(Line::named(first, &mut words)?)),
+        }
     }
-    let Some(second) = words.next() else {
-        return single(first);
-    };
-    let third = words.next();
-    let fourth = words.next();
-    let fifth = words.next();
-    let line = match first {
-        "place" => place(second),
-        "inputs" => inputs(second),
-        "gate" => gate(second, third, fourth, fifth),
-        "output" => output(second, third),
-        "full" => full(second, third, fourth, fifth),
-        "read" => Some(Line::Read(second)),
-        "set" => set(second, third),
-        "extra" => extra(second),
-        _ => None,
-    };
-    line.unwrap_or(Line::Unknown)
+
+    // The line whose first word is `name`, by the words after it.
+    fn named(name: &str, words: &mut SplitWhitespace<'a>) -> Result<Line<'a>, NoSuchLine> {
+        match name {
+            "place" => Ok(Line::Place(number(words)?)),
+            "inputs" => Ok(Line::Inputs(number(words)?)),
+            "gate" => Ok(Line::Gate(gate(words)?)),
+            "output" => Ok(Line::Output(number(words)?, words.next().unwrap_or(""))),
+            "full" => Ok(Line::Full(measures(words)?)),
+            "read" => Ok(Line::Read(words.next().ok_or(NoSuchLine)?)),
+            "set" => Ok(Line::Set(number(words)?, number(words)?)),
+            "extra" => Ok(Line::Extra(number(words)?)),
+            _ if words.next().is_some() => Err(NoSuchLine),
+            "close" => Ok(Line::Close),
+            "copy" => Ok(Line::Copy),
+            "cuts" => Ok(Line::Cuts),
+            _ => Err(NoSuchLine),
+        }
+    }
+}
+
+// The next word as a number of the type that is wanted.
+fn number<T: FromStr>(words: &mut SplitWhitespace<'_>) -> Result<T, NoSuchLine>
+where
+    T::Err: Drop,
+{
+    let word = words.next().ok_or(NoSuchLine)?;
+    word.parse::<T>().map_err(|_| NoSuchLine)
+}
+
+fn gate(words: &mut SplitWhitespace<'_>) -> Result<Gate, NoSuchLine> {
+    Ok(Gate {
+        kind: number(words)?,
+        a: number(words)?,
+        b: number(words)?,
+        c: number(words)?,
+    })
+}
+
+fn measures(words: &mut SplitWhitespace<'_>) -> Result<Measures, NoSuchLine> {
+    Ok(Measures {
+        inputs: number(words)?,
+        gates: number(words)?,
+        outputs: number(words)?,
+        length: number(words)?,
+    })
 }

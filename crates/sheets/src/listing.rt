@@ -1,45 +1,8 @@
 //! What a sheet says, or its fault, as lines of text.
-use sheet::{Flaw, Gate, OutputRecord, Refusal, Sheet, SheetFault};
-
-/// A flaw in words.
-pub fn words(flaw: Flaw) -> &'static str {
-    match flaw {
-        Flaw::Kind => "gate kind not 1 to 9",
-        Flaw::Unused => "unused operand not 0",
-        Flaw::Short => "sheet too short",
-        Flaw::Count => "count out of range",
-        Flaw::Signal => "no such signal, or not below its gate",
-        Flaw::Name => "name of wrong length or byte, or used earlier",
-        Flaw::Extra => "bytes after the end",
-        Flaw::Edition => "edition not 1",
-    }
-}
-
-/// Prints a writer's refusal.
-pub fn refusal(rt: &HostRuntime, refusal: Refusal) -> anyhow::Result<()> {
-    let number = refusal.number();
-    let text = match refusal {
-        Refusal::Wrong(flaw) => words(flaw),
-        Refusal::Full => "place too short",
-    };
-    println!(rt; "refused {number}: {text}")?;
-    Ok(())
-}
-
-fn fault(rt: &HostRuntime, fault: SheetFault) -> anyhow::Result<()> {
-    let number = fault.flaw.number();
-    let section = fault.section;
-    let place = fault.place;
-    let text = words(fault.flaw);
-    println!(rt; "fault {number} section {section} place {place}: {text}")?;
-    Ok(())
-}
+use sheet::{Gate, OutputRecord, Sheet};
 
 fn gate(rt: &HostRuntime, k: u16, gate: Gate) -> anyhow::Result<()> {
-    let kind = gate.kind;
-    let a = gate.a;
-    let b = gate.b;
-    let c = gate.c;
+    let Gate { kind, a, b, c } = gate;
     println!(rt; "gate {k}: {kind} {a} {b} {c}")?;
     Ok(())
 }
@@ -53,48 +16,31 @@ fn output(rt: &HostRuntime, output: OutputRecord) -> anyhow::Result<()> {
     Ok(())
 }
 
-fn gates(rt: &HostRuntime, sheet: &Sheet) -> anyhow::Result<()> {
-    for k in 0..sheet.gates() {
-        if let Some(record) = sheet.gate(k) {
-            gate(rt, k, record)?;
-        }
-    }
-    Ok(())
-}
-
-fn outputs(rt: &HostRuntime, sheet: &Sheet) -> anyhow::Result<()> {
-    let mut records = sheet.output_records();
-    for _ in 0..sheet.outputs() {
-        if let Some(record) = records.next_output() {
-            output(rt, record)?;
-        }
-    }
-    Ok(())
-}
-
 /// Reads some bytes and prints what they say, or their fault.
 pub fn list(rt: &HostRuntime, bytes: &[u8]) -> anyhow::Result<()> {
     match Sheet::read(bytes) {
         Ok(sheet) => {
-            let count = sheet.inputs();
-            println!(rt; "inputs {count}")?;
-            gates(rt, &sheet)?;
-            outputs(rt, &sheet)
+            println!(rt; "inputs {}", sheet.inputs())?;
+            for (k, record) in (0..u16::MAX).zip(sheet.gate_records()) {
+                gate(rt, k, record)?;
+            }
+            for record in sheet.output_records() {
+                output(rt, record)?;
+            }
         }
-        Err(e) => fault(rt, e),
+        Err(fault) => println!(rt; "fault {fault}")?,
     }
+    Ok(())
 }
 
 /// Reads some bytes and prints how many of each they have, or their fault.
 pub fn summary(rt: &HostRuntime, bytes: &[u8]) -> anyhow::Result<()> {
     match Sheet::read(bytes) {
-        Ok(sheet) => {
-            let inputs = sheet.inputs();
-            let gates = sheet.gates();
-            let outputs = sheet.outputs();
-            println!(rt; "accepted: inputs {inputs} gates {gates} outputs {outputs}")?;
-            Ok(())
-        }
-        Err(e) => fault(rt, e),
+        Ok(sheet) => println!(rt;
+            "accepted: inputs {} gates {} outputs {}",
+            sheet.inputs(), sheet.gates(), sheet.outputs()
+        )?,
+        Err(fault) => println!(rt; "fault {fault}")?,
     }
+    Ok(())
 }

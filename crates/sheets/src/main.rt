@@ -6,7 +6,6 @@ use std::env;
 
 mod desk;
 mod filling;
-mod hex;
 mod line;
 mod listing;
 mod speed;

@@ -1,6 +1,7 @@
 //! The writer of a script, whichever state it is in.
-use sheet::writer::{Closed, Gates, Opened, Outputs};
+use sheet::writer::{Closed, Gates, Opened, Outputs, Refused};
 use sheet::{Gate, Refusal};
+use std::fmt;
 
 /// A writer's state.
 #[derive(Drop)]
@@ -11,66 +12,100 @@ pub enum Stage {
     Closed(Closed),
 }
 
-/// How a line went: done, refused, or out of order, which a program over the writer could not even say.
-#[derive(Clone, Copy)]
-pub enum Outcome {
-    Done,
+impl From<Opened> for Stage {
+    fn from(writer: Opened) -> Stage {
+        Stage::Opened(writer)
+    }
+}
+
+impl From<Gates> for Stage {
+    fn from(writer: Gates) -> Stage {
+        Stage::Gates(writer)
+    }
+}
+
+impl From<Outputs> for Stage {
+    fn from(writer: Outputs) -> Stage {
+        Stage::Outputs(writer)
+    }
+}
+
+/// Why a line writes nothing: a refusal, or a line out of order, which a program over the writer could not even say.
+#[derive(Clone, Copy, Debug)]
+pub enum Mistake {
     Refused(Refusal),
     Misplaced,
 }
 
-/// Writes the number of inputs.
-pub fn inputs(stage: Stage, place: &mut [u8], count: u16) -> (Stage, Outcome) {
-    match stage {
-        Stage::Opened(writer) => match writer.inputs(place, count) {
-            Ok(next) => (Stage::Gates(next), Outcome::Done),
-            Err(back) => (Stage::Opened(back.0), Outcome::Refused(back.1)),
-        },
-        other => (other, Outcome::Misplaced),
+impl fmt::Display for Mistake {
+    fn fmt<W: fmt::Write>(&self, f: &mut fmt::Formatter<W>) -> fmt::Result {
+        match self {
+            Mistake::Refused(refusal) => write!(f, "refused {refusal}"),
+            Mistake::Misplaced => write!(
+                f,
+                "out of order: list inputs, then gates, then outputs; after closing start another writer"
+            ),
+        }
     }
 }
 
-/// Writes a gate.
-pub fn gate(stage: Stage, place: &mut [u8], gate: Gate) -> (Stage, Outcome) {
-    match stage {
-        Stage::Gates(writer) => match writer.gate(place, gate) {
-            Ok(next) => (Stage::Gates(next), Outcome::Done),
-            Err(back) => (Stage::Gates(back.0), Outcome::Refused(back.1)),
-        },
-        other => (other, Outcome::Misplaced),
+/// A mistake, and the stage as it was before it.
+#[derive(Drop)]
+pub struct Unwritten {
+    pub stage: Stage,
+    pub mistake: Mistake,
+}
+
+impl<W: Into<Stage>> From<Refused<W>> for Unwritten {
+    fn from(refused: Refused<W>) -> Unwritten {
+        let Refused { writer, refusal } = refused;
+        Unwritten {
+            stage: writer.into(),
+            mistake: Mistake::Refused(refusal),
+        }
     }
 }
 
-/// Writes an output.
-pub fn output(stage: Stage, place: &mut [u8], signal: u16, name: &[u8]) -> (Stage, Outcome) {
-    match stage {
-        Stage::Gates(writer) => match writer.output(place, signal, name) {
-            Ok(next) => (Stage::Outputs(next), Outcome::Done),
-            Err(back) => (Stage::Gates(back.0), Outcome::Refused(back.1)),
-        },
-        Stage::Outputs(writer) => match writer.output(place, signal, name) {
-            Ok(next) => (Stage::Outputs(next), Outcome::Done),
-            Err(back) => (Stage::Outputs(back.0), Outcome::Refused(back.1)),
-        },
-        other => (other, Outcome::Misplaced),
+impl Stage {
+    fn misplaced(self) -> Unwritten {
+        Unwritten {
+            stage: self,
+            mistake: Mistake::Misplaced,
+        }
     }
-}
 
-/// Closes the sheet.
-pub fn close(stage: Stage, place: &[u8]) -> (Stage, Outcome) {
-    match stage {
-        Stage::Opened(writer) => match writer.close(place) {
-            Ok(sheet) => (Stage::Closed(sheet), Outcome::Done),
-            Err(back) => (Stage::Opened(back.0), Outcome::Refused(back.1)),
-        },
-        Stage::Gates(writer) => match writer.close(place) {
-            Ok(sheet) => (Stage::Closed(sheet), Outcome::Done),
-            Err(back) => (Stage::Gates(back.0), Outcome::Refused(back.1)),
-        },
-        Stage::Outputs(writer) => match writer.close(place) {
-            Ok(sheet) => (Stage::Closed(sheet), Outcome::Done),
-            Err(back) => (Stage::Outputs(back.0), Outcome::Refused(back.1)),
-        },
-        other => (other, Outcome::Misplaced),
+    /// Writes the number of inputs.
+    pub fn inputs(self, place: &mut [u8], count: u16) -> Result<Stage, Unwritten> {
+        match self {
+            Stage::Opened(writer) => Ok(Stage::Gates(writer.inputs(place, count)?)),
+            other => Err(other.misplaced()),
+        }
+    }
+
+    /// Writes a gate.
+    pub fn gate(self, place: &mut [u8], gate: Gate) -> Result<Stage, Unwritten> {
+        match self {
+            Stage::Gates(writer) => Ok(Stage::Gates(writer.gate(place, gate)?)),
+            other => Err(other.misplaced()),
+        }
+    }
+
+    /// Writes an output.
+    pub fn output(self, place: &mut [u8], signal: u16, name: &[u8]) -> Result<Stage, Unwritten> {
+        match self {
+            Stage::Gates(writer) => Ok(Stage::Outputs(writer.output(place, signal, name)?)),
+            Stage::Outputs(writer) => Ok(Stage::Outputs(writer.output(place, signal, name)?)),
+            other => Err(other.misplaced()),
+        }
+    }
+
+    /// Closes the sheet.
+    pub fn close(self, place: &[u8]) -> Result<Stage, Unwritten> {
+        match self {
+            Stage::Opened(writer) => Ok(Stage::Closed(writer.close(place)?)),
+            Stage::Gates(writer) => Ok(Stage::Closed(writer.close(place)?)),
+            Stage::Outputs(writer) => Ok(Stage::Closed(writer.close(place)?)),
+            other => Err(other.misplaced()),
+        }
     }
 }
