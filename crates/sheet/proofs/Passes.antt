@@ -12,7 +12,7 @@ use Rattle.gates.specs.Kinds.{between}
 use Rattle.sheet.specs.Format.{next_gate, Output, within, edition, input_section, gate_section, output_section, end, sheet, placed, decode, content, fault}
 use Rattle.sheet.specs.Numbers.{number_of}
 use Rattle.sheet.specs.View.{left, counted, Step, StepBy}
-use Rattle.sheet.specs.Sections.{located, Accepted}
+use Rattle.sheet.specs.Sections.{Accepted}
 use Rattle.sheet.specs.Laws.{Bytes}
 use Rattle.sheet.proofs.Forth.{encode_decode}
 use Rattle.sheet.proofs.Fields.{chain, never, parts, judged_got}

@@ -8,13 +8,6 @@ use crate::fault::{FieldFault, Flaw};
 use crate::gate::Gate;
 use gates::{reads_b, reads_c};
 
-/// A number of two bytes.
-pub fn joined(high: u8, low: u8) -> u16
-    ensures { result ≡ 256 * high + low }
-{
-    256 * high as u16 + low as u16
-}
-
 /// Whether an operand is below the signal of its own gate, or 0 where the gate does not read it.
 pub fn operand_fits(read: bool, own: u16, operand: u16) -> bool
     ensures { result ≡ operand_fits read own operand }
@@ -53,9 +46,9 @@ pub fn record(bytes: &[u8]) -> Option<(Gate, &[u8])>
     Some((
         Gate {
             kind: *kind,
-            a: joined(*a1, *a0),
-            b: joined(*b1, *b0),
-            c: joined(*c1, *c0),
+            a: u16::from_be_bytes([*a1, *a0]),
+            b: u16::from_be_bytes([*b1, *b0]),
+            c: u16::from_be_bytes([*c1, *c0]),
         },
         rest,
     ))

@@ -27,7 +27,7 @@ fn numbered(name: &mut [u8], k: u16) {
 fn fill_gates(writer: Gates, place: &mut [u8], count: u16) -> Result<Gates, Refusal> {
     let mut writer = writer;
     for _ in 0..count {
-        writer = match writer.gate(
+        writer = writer.gate(
             place,
             Gate {
                 kind: 1,
@@ -35,10 +35,7 @@ fn fill_gates(writer: Gates, place: &mut [u8], count: u16) -> Result<Gates, Refu
                 b: 3,
                 c: 0,
             },
-        ) {
-            Ok(next) => next,
-            Err(back) => return Err(back.1),
-        };
+        )?;
     }
     Ok(writer)
 }
@@ -52,41 +49,21 @@ fn fill_outputs(
     let mut writer = writer;
     for k in 1..count {
         numbered(name, k);
-        writer = match writer.output(place, 2, name) {
-            Ok(next) => next,
-            Err(back) => return Err(back.1),
-        };
+        writer = writer.output(place, 2, name)?;
     }
     Ok(writer)
 }
 
-fn started(place: &mut [u8], inputs: u16) -> Result<Gates, Refusal> {
-    match Opened.inputs(place, inputs) {
-        Ok(next) => Ok(next),
-        Err(back) => Err(back.1),
-    }
-}
-
 fn named(writer: Gates, place: &mut [u8], name: &mut [u8]) -> Result<Outputs, Refusal> {
     numbered(name, 0);
-    match writer.output(place, 2, name) {
-        Ok(next) => Ok(next),
-        Err(back) => Err(back.1),
-    }
-}
-
-fn closed(writer: Outputs, place: &[u8]) -> Result<Closed, Refusal> {
-    match writer.close(place) {
-        Ok(sheet) => Ok(sheet),
-        Err(back) => Err(back.1),
-    }
+    Ok(writer.output(place, 2, name)?)
 }
 
 /// Writes a sheet of these measures, or gives the first refusal.
 pub fn fill(place: &mut [u8], name: &mut [u8], measures: Measures) -> Result<Closed, Refusal> {
-    let writer = started(place, measures.inputs)?;
+    let writer = Opened.inputs(place, measures.inputs)?;
     let writer = fill_gates(writer, place, measures.gates)?;
     let writer = named(writer, place, name)?;
     let writer = fill_outputs(writer, place, name, measures.outputs)?;
-    closed(writer, place)
+    Ok(writer.close(place)?)
 }

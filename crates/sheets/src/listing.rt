@@ -1,37 +1,14 @@
 //! What a sheet says, or its fault, as lines of text.
-use sheet::{Flaw, Gate, OutputRecord, Refusal, Sheet, SheetFault};
-
-/// A flaw in words.
-pub fn words(flaw: Flaw) -> &'static str {
-    match flaw {
-        Flaw::Kind => "gate kind not 1 to 9",
-        Flaw::Unused => "unused operand not 0",
-        Flaw::Short => "sheet too short",
-        Flaw::Count => "count out of range",
-        Flaw::Signal => "no such signal, or not below its gate",
-        Flaw::Name => "name of wrong length or byte, or used earlier",
-        Flaw::Extra => "bytes after the end",
-        Flaw::Edition => "edition not 1",
-    }
-}
+use sheet::{Gate, OutputRecord, Refusal, Sheet, SheetFault};
 
 /// Prints a writer's refusal.
 pub fn refusal(rt: &HostRuntime, refusal: Refusal) -> anyhow::Result<()> {
-    let number = refusal.number();
-    let text = match refusal {
-        Refusal::Wrong(flaw) => words(flaw),
-        Refusal::Full => "place too short",
-    };
-    println!(rt; "refused {number}: {text}")?;
+    println!(rt; "refused {refusal}")?;
     Ok(())
 }
 
 fn fault(rt: &HostRuntime, fault: SheetFault) -> anyhow::Result<()> {
-    let number = fault.flaw.number();
-    let section = fault.section;
-    let place = fault.place;
-    let text = words(fault.flaw);
-    println!(rt; "fault {number} section {section} place {place}: {text}")?;
+    println!(rt; "fault {fault}")?;
     Ok(())
 }
 

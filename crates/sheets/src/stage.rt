@@ -24,7 +24,7 @@ pub fn inputs(stage: Stage, place: &mut [u8], count: u16) -> (Stage, Outcome) {
     match stage {
         Stage::Opened(writer) => match writer.inputs(place, count) {
             Ok(next) => (Stage::Gates(next), Outcome::Done),
-            Err(back) => (Stage::Opened(back.0), Outcome::Refused(back.1)),
+            Err(back) => (Stage::Opened(back.writer), Outcome::Refused(back.refusal)),
         },
         other => (other, Outcome::Misplaced),
     }
@@ -35,7 +35,7 @@ pub fn gate(stage: Stage, place: &mut [u8], gate: Gate) -> (Stage, Outcome) {
     match stage {
         Stage::Gates(writer) => match writer.gate(place, gate) {
             Ok(next) => (Stage::Gates(next), Outcome::Done),
-            Err(back) => (Stage::Gates(back.0), Outcome::Refused(back.1)),
+            Err(back) => (Stage::Gates(back.writer), Outcome::Refused(back.refusal)),
         },
         other => (other, Outcome::Misplaced),
     }
@@ -46,11 +46,11 @@ pub fn output(stage: Stage, place: &mut [u8], signal: u16, name: &[u8]) -> (Stag
     match stage {
         Stage::Gates(writer) => match writer.output(place, signal, name) {
             Ok(next) => (Stage::Outputs(next), Outcome::Done),
-            Err(back) => (Stage::Gates(back.0), Outcome::Refused(back.1)),
+            Err(back) => (Stage::Gates(back.writer), Outcome::Refused(back.refusal)),
         },
         Stage::Outputs(writer) => match writer.output(place, signal, name) {
             Ok(next) => (Stage::Outputs(next), Outcome::Done),
-            Err(back) => (Stage::Outputs(back.0), Outcome::Refused(back.1)),
+            Err(back) => (Stage::Outputs(back.writer), Outcome::Refused(back.refusal)),
         },
         other => (other, Outcome::Misplaced),
     }
@@ -61,15 +61,15 @@ pub fn close(stage: Stage, place: &[u8]) -> (Stage, Outcome) {
     match stage {
         Stage::Opened(writer) => match writer.close(place) {
             Ok(sheet) => (Stage::Closed(sheet), Outcome::Done),
-            Err(back) => (Stage::Opened(back.0), Outcome::Refused(back.1)),
+            Err(back) => (Stage::Opened(back.writer), Outcome::Refused(back.refusal)),
         },
         Stage::Gates(writer) => match writer.close(place) {
             Ok(sheet) => (Stage::Closed(sheet), Outcome::Done),
-            Err(back) => (Stage::Gates(back.0), Outcome::Refused(back.1)),
+            Err(back) => (Stage::Gates(back.writer), Outcome::Refused(back.refusal)),
         },
         Stage::Outputs(writer) => match writer.close(place) {
             Ok(sheet) => (Stage::Closed(sheet), Outcome::Done),
-            Err(back) => (Stage::Outputs(back.0), Outcome::Refused(back.1)),
+            Err(back) => (Stage::Outputs(back.writer), Outcome::Refused(back.refusal)),
         },
         other => (other, Outcome::Misplaced),
     }

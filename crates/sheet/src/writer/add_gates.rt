@@ -8,7 +8,7 @@ use crate::fault::Flaw;
 use crate::gate::Gate;
 use crate::record::check_gate;
 use crate::refusal::{Refusal, Refused};
-use crate::writer::bytes::{gate_bytes, number_bytes};
+use crate::writer::bytes::gate_bytes;
 use crate::writer::{Gates, Opened, put};
 
 impl Opened {
@@ -31,8 +31,8 @@ impl Opened {
         }
         let Opened = self;
         put(place, 0, &[1]);
-        put(place, 1, &number_bytes(inputs));
-        put(place, 3, &number_bytes(0));
+        put(place, 1, &inputs.to_be_bytes());
+        put(place, 3, &0u16.to_be_bytes());
         Ok(Gates { inputs, gates: 0 })
     }
 }
@@ -70,7 +70,7 @@ impl Gates {
         };
         let Gates { inputs, gates } = self;
         put(place, at, &gate_bytes(gate));
-        put(place, 3, &number_bytes(gates + 1));
+        put(place, 3, &(gates + 1).to_be_bytes());
         Ok(Gates {
             inputs,
             gates: gates + 1,

@@ -8,7 +8,6 @@ ghost use Rattle.sheet.specs.Refusals.{refused, first_output_refusal, output_ref
 use crate::fault::Flaw;
 use crate::output::bytes_from;
 use crate::refusal::{Refusal, Refused};
-use crate::writer::bytes::number_bytes;
 use crate::writer::names::check_output;
 use crate::writer::{Gates, Outputs, put};
 
@@ -47,7 +46,7 @@ impl Gates {
         };
         let Gates { inputs, gates } = self;
         let at = 5 + 7 * gates as usize;
-        put(place, at, &number_bytes(1));
+        put(place, at, &1u16.to_be_bytes());
         put_output(place, at + 2, signal, name);
         Ok(Outputs {
             inputs,
@@ -110,7 +109,7 @@ impl Outputs {
             end: before,
         } = self;
         put_output(place, before, signal, name);
-        put(place, 5 + 7 * gates as usize, &number_bytes(outputs + 1));
+        put(place, 5 + 7 * gates as usize, &(outputs + 1).to_be_bytes());
         Ok(Outputs {
             inputs,
             gates,
@@ -126,7 +125,7 @@ fn put_output(place: &mut [u8], at: usize, signal: u16, name: &[u8])
     requires small { length name.now ≤ 16 }
     ensures { place.new ≡ written place.old at (output_bytes (named signal name.now)) }
 {
-    put(place, at, &number_bytes(signal));
+    put(place, at, &signal.to_be_bytes());
     put(place, at + 2, &[name.len() as u8]);
     put(place, at + 3, name);
 }

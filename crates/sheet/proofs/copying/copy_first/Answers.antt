@@ -1,7 +1,7 @@
 -- What is left to show of `copying::copy_first`, beyond what the search finds.
 use Rattle.std.proofs.lemmas.Result.{err_from_is_err_and}
 use Rattle.sheet.specs.Names.{output_of}
-use Rattle.sheet.proofs.Copies.{first_copied, full_at_first, no_item, some_outputs}
+use Rattle.sheet.proofs.Copies.{full_at_first}
 use Rattle.sheet.proofs.copying.copy_first.Goals as goal
 
 pub returns-in_err-output-clause-written : goal.returns-in_err-output-clause-written
