@@ -2,6 +2,7 @@
 use Rattle.std.proofs.Common.{◌≡◌, ℕ, ◌+◌, ◌*◌, ◌/◌, ◌%◌, ◌<◌, ◌≤◌, Bool, true, false, cond, List, [], ◌∷◌, ◌++◌, length, sym, refl, ap, ◌∙◌, subst, arith}
 use Rattle.std.proofs.lemmas.List.{take-append-drop, length-take-le, length-append, take_at, drop_at}
 use Rattle.std.proofs.lemmas.Bool.{leb-true, le-leb, cond-true}
+use Rattle.std.specs.Int.{w16, to_be_bytes, from_be_bytes}
 use Rattle.sheet.specs.declared.fault.Flaw.{Flaw}
 use Rattle.sheet.specs.Reading.{Read, got, bad, and_then, Wrong, byte, number, bytes, judged}
 use Rattle.sheet.specs.Format.{number_bytes}
@@ -42,6 +43,13 @@ byte_got (x ∷ xs) b ys e = cc
 
 pub whole_number : (n : ℕ) → 256 * (n / 256) + n % 256 ≡ n
 whole_number n = omega arith
+
+-- what std's conversions of numbers say, in the words of the format
+pub two_bytes : (n : ℕ) → n < 65536 → to_be_bytes w16 n ≡ number_bytes n
+two_bytes n h = let e : n / 256 % 256 ≡ n / 256 = omega arith in ap (λ m. m ∷ n % 256 ∷ []) e
+
+pub joined_bytes : (high low : ℕ) → from_be_bytes w16 (high ∷ low ∷ []) ≡ 256 * high + low
+joined_bytes high low = omega arith
 
 pub number_got : (xs : List ℕ) (n : ℕ) (ys : List ℕ) → Bytes xs → number xs ≡ got n ys → (xs ≡ number_bytes n ++ ys) × Bytes ys
 number_got [] n ys t e = absurd (never e)

@@ -1,5 +1,5 @@
 -- The sections of a sheet in turn.
-use Rattle.std.proofs.Common.{◌≡◌, ℕ, zero, suc, ◌+◌, ◌-◌, ◌<◌, ◌≤◌, leb, List, [], ◌∷◌, ◌++◌, length, get_or, drop, Ok, Err, Result, sym, refl, ap, ◌∙◌, subst, arith}
+use Rattle.std.proofs.Common.{◌≡◌, ℕ, zero, suc, ◌+◌, ◌-◌, ◌<◌, ◌≤◌, leb, List, [], ◌∷◌, ◌++◌, length, get_or, drop, Ok, Err, Result, MatchResult, sym, refl, ap, ◌∙◌, subst, arith}
 use Rattle.std.proofs.lemmas.List.{drop_all, length-drop, length_push}
 use Rattle.std.proofs.lemmas.Bool.{leb-true, and_parts}
 use Rattle.sheet.specs.declared.fault.FieldFault.{FieldFault}
@@ -12,19 +12,11 @@ use Rattle.gates.specs.Kinds.{between}
 use Rattle.sheet.specs.Format.{next_gate, Output, within, edition, input_section, gate_section, output_section, end, sheet, placed, decode, content, fault}
 use Rattle.sheet.specs.Numbers.{number_of}
 use Rattle.sheet.specs.View.{left, counted, Step, StepBy}
-use Rattle.sheet.specs.Sections.{located, Accepted}
+use Rattle.sheet.specs.Sections.{Accepted}
 use Rattle.sheet.specs.Laws.{Bytes}
 use Rattle.sheet.proofs.Forth.{encode_decode}
 use Rattle.sheet.proofs.Fields.{chain, never, parts, judged_got}
 use Rattle.sheet.proofs.Loops.{broken}
-
-pub located_ok : {X : Type 0} (s : ℕ) (r : Result X FieldFault) (x : X) → located s r ≡ Ok x → r ≡ Ok x
-located_ok s (Ok y) x e = let same : y ≡ x = cc in cc
-located_ok s (Err f) x e = absurd (let z : ◌≡◌ {A = ℕ} 0 1 = cc in omega arith)
-
-pub located_err : {X : Type 0} (s : ℕ) (r : Result X FieldFault) (f : SheetFault) → located s r ≡ Err f → (e : FieldFault) × (r ≡ Err e) × (f ≡ record { flaw = e.flaw; section = s; place = e.place })
-located_err s (Ok y) f e = absurd (let z : ◌≡◌ {A = ℕ} 0 1 = cc in omega arith)
-located_err s (Err g) f e = (g, refl, (cc))
 
 pub record Counted {X : Type 0} (o : Read Wrong (List X)) (n : ℕ) (rest : List ℕ) : Type 0 where
   pub list : List X
@@ -68,10 +60,10 @@ module _ (bs : List ℕ) where
           good z xs₅ e = chain _ (ap (within 0) e₀) (chain _ (ap (within 1) e₁) (chain _ (ap (within 2) e₂) (chain _ (ap (within 3) e₃) (chain _ (ap (within 0) e) refl))))
 
 -- a section that was read, of which the pass kept the answer
-pub at_ok : {X Y : Type 0} (view : Y → X) (field : List ℕ → Read Wrong X) (before after : Reader) (r : Result Y FieldFault) (s : ℕ) (y : Y) → StepBy view field before r after → Ok y ≡ located s r → StepBy view field before (Ok y) after
-at_ok view field before after r s y h e =
-    let P : Result _ FieldFault → Type 0 = λ q. StepBy view field before q after in
-    subst P (located_ok s r y (sym e)) h
+pub at_ok : {X Y : Type 0} (view : Y → X) (field : List ℕ → Read Wrong X) (before after : Reader) (r : Result Y FieldFault) (y : Y) → StepBy view field before r after
+    → MatchResult r (λ x. ◌≡◌ {A = Result Y SheetFault} (Ok y) (Ok x)) (λ _. ⊥) → StepBy view field before (Ok y) after
+at_ok view field before after (Ok x) y h e = let same : x ≡ y = cc in subst (λ z. StepBy view field before (Ok z) after) same h
+at_ok view field before after (Err f) y h e = absurd e
 
 -- a sheet that is read up to its end
 pub record ReadAll (bs : List ℕ) (i n m : ℕ) (at : Reader) : Type 0 where

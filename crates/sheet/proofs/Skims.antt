@@ -1,8 +1,9 @@
 -- The names in the bytes are those that were read.
-use Rattle.std.proofs.Common.{◌≡◌, ℕ, zero, suc, ◌+◌, ◌-◌, ◌<◌, ◌≤◌, Bool, true, false, ◌&&◌, ◌||◌, leb, List, [], ◌∷◌, ◌++◌, length, get_or, take, drop, sym, refl, ap, ◌∙◌, subst, append_assoc, append-nil, arith}
-use Rattle.std.proofs.lemmas.List.{map_push, at_drop_more, at_drop_all}
-use Rattle.std.proofs.lemmas.Bool.{leb-true}
+use Rattle.std.proofs.Common.{◌≡◌, ℕ, zero, suc, ◌+◌, ◌-◌, ◌<◌, ◌≤◌, Bool, true, false, ◌||◌, ◌↔◌, IsTrue, leb, List, [], ◌∷◌, ◌++◌, length, get_or, take, drop, sym, refl, ap, ◌∙◌, subst, append_assoc, append-nil, arith}
+use Rattle.std.proofs.lemmas.List.{map_push}
+use Rattle.std.proofs.lemmas.Bool.{leb-true, le-leb, and_parts}
 use Rattle.std.specs.Str.{bytes_eq}
+use Rattle.std.specs.List.{All}
 use Rattle.sheet.specs.declared.fault.Flaw.TheVariants.{Name}
 use Rattle.sheet.specs.Reading.{got, byte, number, bytes, judged, records}
 use Rattle.sheet.specs.Format.{Output, output, next_output, names, operand, operand_fits, operand_flaw, name_fits, used, visible}
@@ -108,11 +109,28 @@ look_all name outputs count k rest h l =
 pub named_before : (name outputs rest : List ℕ) (count : ℕ) (r : Bool) → rest ≡ outputs → Room count outputs → (Room count rest → r ≡ used name (skim count rest)) → used name (skim count outputs) ≡ r
 named_before name outputs rest count r e room f = ap (λ l. used name (skim count l)) (sym e) ∙ sym (f (subst (Room count) (sym e) room))
 
-pub visible_more : (s : List ℕ) (i : ℕ) → visible (drop i s) ≡ visible s → i < length s → between 33 126 (get_or s i 0) ≡ true → visible (drop (i + 1) s) ≡ visible s
-visible_more s i e h b = sym (ap (λ t. t && visible (drop (i + 1) s)) b) ∙ sym (at_drop_more visible s i 0 h) ∙ e
+-- a byte that can be seen
+abbrev pub seen : ℕ → Type 0
+seen b = (33 ≤ b) × (b ≤ 126)
 
-pub visible_bad : (s : List ℕ) (i : ℕ) → visible (drop i s) ≡ visible s → i < length s → between 33 126 (get_or s i 0) ≡ false → false ≡ visible s
-visible_bad s i e h b = sym (ap (λ t. t && visible (drop (i + 1) s)) b) ∙ sym (at_drop_more visible s i 0 h) ∙ e
+visible_from_all : (s : List ℕ) → All seen s → visible s ≡ true
+visible_from_all [] h = refl
+visible_from_all (b ∷ bs) h =
+    let here : seen b = h 0 0 (omega arith) in
+    let rest : visible bs ≡ true = visible_from_all bs (λ k d l. h (suc k) d (omega arith)) in
+    simp (le-leb 33 b here.0, le-leb b 126 here.1, rest)
 
-pub visible_all : (s : List ℕ) (i : ℕ) → visible (drop i s) ≡ visible s → length s ≤ i → true ≡ visible s
-visible_all s i e h = sym (at_drop_all visible s i h) ∙ e
+at_all : (b : ℕ) (bs : List ℕ) → seen b → All seen bs → All seen (b ∷ bs)
+at_all b bs here rest zero d l = here
+at_all b bs here rest (suc k) d l = rest k d (omega arith)
+
+all_from_visible : (s : List ℕ) → visible s ≡ true → All seen s
+all_from_visible [] h = λ k d l. absurd (omega arith)
+all_from_visible (b ∷ bs) h =
+    let p = and_parts (between 33 126 b) (visible bs) h in
+    let q = and_parts (leb 33 b) (leb b 126) p.0 in
+    λ k d l. at_all b bs (leb-true 33 b q.0, leb-true b 126 q.1) (all_from_visible bs p.1) k d l
+
+pub visible_as : (s : List ℕ) (r : Bool) → IsTrue r ↔ All seen s → r ≡ visible s
+visible_as s true h = sym (visible_from_all s (h.0 refl))
+visible_as s false h = elim (visible s) as (λ v. visible s ≡ v → false ≡ v) [ true ↦ λ e. h.1 (all_from_visible s e) | false ↦ λ e. refl ] refl

@@ -2,7 +2,7 @@
 use Rattle.std.proofs.Common.{◌≡◌, ℕ, ◌+◌, ◌-◌, ◌*◌, ◌≤◌, true, false, List, [], ◌∷◌, length, get_or, take, drop, Ok, Err, sym, refl, ap, ◌∙◌, subst, arith}
 use Rattle.std.proofs.lemmas.List.{length-drop, drop-drop, take_rest}
 use Rattle.sheet.specs.declared.gate.Gate.{Gate}
-use Rattle.sheet.specs.declared.fault.Flaw.{Flaw}
+use Rattle.sheet.specs.declared.fault.FieldFault.{FieldFault}
 use Rattle.sheet.specs.declared.fault.Flaw.TheVariants.{Kind, Signal}
 use Rattle.sheet.specs.declared.reader.Reader.{Reader}
 use Rattle.sheet.specs.Reading.{got, wrong}
@@ -10,7 +10,7 @@ use Rattle.sheet.specs.Format.{gate, operand_fits, operand_flaw}
 use Rattle.gates.specs.Kinds.{between, reads_b, reads_c}
 use Rattle.sheet.specs.View.{left, Step}
 use Rattle.sheet.specs.Laws.{GateFits}
-use Rattle.sheet.specs.Record.{Seven}
+use Rattle.sheet.specs.Record.{Seven, GateFault}
 
 pub record Whole (own : ℕ) (xs : List ℕ) (g : Gate) : Type 0 where
   pub bad_kind : between 1 9 g.kind ≡ false → gate own xs ≡ wrong Kind (length xs)
@@ -49,15 +49,16 @@ whole own xs g s =
 abbrev pub part : Reader → List ℕ
 part r = take (length r.sheet.now - r.place) (left r)
 
-pub refused_at : (own : ℕ) (before : Reader) (g : Gate) (flaw : Flaw) (n : ℕ) → Seven (part before) g → (n ≤ 5) × ((xs : List ℕ) → Seven xs g → gate own xs ≡ wrong flaw (length (drop n xs)))
-    → Step (gate own) before (Err (record { flaw = flaw; place = before.place + n })) before
-refused_at own before g flaw n s f =
-    let e = f.1 (left before) (subst (λ l. Seven l g) (take_rest before.sheet.now before.place) s) in
+pub refused_at : (own : ℕ) (before : Reader) (g : Gate) (fault : FieldFault) → Seven (part before) g → GateFault own g before.place fault → Step (gate own) before (Err fault) before
+refused_at own before g fault s f =
+    let n : ℕ = fault.place - before.place in
+    let at : before.place + n ≡ fault.place = omega (arith, f.from) in
+    let e = f.is (left before) (subst (λ l. Seven l g) (take_rest before.sheet.now before.place) s) in
     let long : 7 ≤ length before.sheet.now - before.place = omega (arith, s.long, ap length (take_rest before.sheet.now before.place), length-drop before.place before.sheet.now) in
     record {
       sheet = refl;
-      reads = sym (e ∙ ap (λ l. wrong flaw (length l)) (drop-drop n before.place before.sheet.now) ∙ ap (wrong flaw) (length-drop _ before.sheet.now));
-      inside = omega (arith, f.0);
+      reads = sym (e ∙ ap (λ l. wrong fault.flaw (length l)) (drop-drop n before.place before.sheet.now) ∙ ap (wrong fault.flaw) (length-drop _ before.sheet.now) ∙ ap (λ m. wrong fault.flaw (length before.sheet.now - m)) at);
+      inside = omega (arith, f.upto);
     }
 
 pub accepted_at : (own : ℕ) (before after : Reader) (g : Gate) (rest : List ℕ) → after.sheet.now ≡ before.sheet.now → after.place ≡ length before.sheet.now - length rest

@@ -17,7 +17,7 @@ use Rattle.sheet.specs.Laws.{GateFits, NextGateFits, EachFits, OutputFits, NextO
 use Rattle.sheet.specs.Written.{put, gates_end, outputs_start, front, HoldsGates, HoldsOutputs, named, more_outputs}
 use Rattle.sheet.specs.declared.writer.Closed.{Closed}
 use Rattle.sheet.specs.Closing.{HoldsSheet, ReadsBack}
-use Rattle.sheet.specs.Numbers.{number_of}
+use Rattle.sheet.specs.Numbers.{number_of, section_number}
 use Rattle.sheet.specs.Sections.{Says, Reads}
 use Rattle.sheet.specs.declared.fault.SheetFault.{SheetFault}
 use Rattle.sheet.specs.declared.sheet.Sheet.{Sheet}
@@ -240,7 +240,7 @@ reads_back place bs v (Ok s) b q = λ before c h.
     let same : q.1.0 ≡ c = cc in
     subst (Says s) same q.1.1
 reads_back place bs v (Err f) b q = λ before c h.
-    let e : fault (number_of f.flaw) f.section f.place ≡ content c = sym q ∙ ap decode b ∙ h.reads in
+    let e : fault (number_of f.flaw) (section_number f.section) f.place ≡ content c = sym q ∙ ap decode b ∙ h.reads in
     let z : ◌≡◌ {A = ℕ} 0 1 = cc in
     omega arith
 

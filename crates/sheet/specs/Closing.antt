@@ -1,7 +1,7 @@
 -- What closing a sheet gives, and what is read back.
 use Rattle.std.specs.Prelude.{◌≡◌, ℕ, List, ◌++◌, take, drop, Ok, Err, Result}
 use Rattle.sheet.specs.declared.fault.SheetFault.{SheetFault}
-use Rattle.sheet.specs.declared.refusal.Refusal.{Refusal}
+use Rattle.sheet.specs.declared.refusal.Refused.{Refused}
 use Rattle.sheet.specs.declared.sheet.Sheet.{Sheet}
 use Rattle.sheet.specs.declared.writer.Closed.{Closed}
 use Rattle.sheet.specs.declared.writer.Outputs.{Outputs}
@@ -15,9 +15,9 @@ pub record HoldsSheet (before place : List ℕ) (v : Closed) (c : Content) : Typ
   pub reads : decode (take v.size place) ≡ content c
   pub behind : place ≡ encode c ++ drop v.size before
 
-abbrev pub Closing : List ℕ → Outputs → Result Closed (Outputs × Refusal) → Type 0
+abbrev pub Closing : List ℕ → Outputs → Result Closed (Refused Outputs) → Type 0
 Closing place w (Ok v) = (v.size ≡ w.end) × ((before : List ℕ) (c : Content) → HoldsOutputs before place w c → HoldsSheet before place v c)
-Closing place w (Err e) = (e.0 ≡ w) × ((before : List ℕ) (c : Content) → HoldsOutputs before place w c → ⊥)
+Closing place w (Err e) = (e.writer ≡ w) × ((before : List ℕ) (c : Content) → HoldsOutputs before place w c → ⊥)
 
 -- a closed sheet reads back as what the writer was given
 abbrev pub ReadsBack : List ℕ → Closed → Result Sheet SheetFault → Type 0

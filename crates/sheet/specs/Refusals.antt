@@ -5,6 +5,7 @@ use Rattle.sheet.specs.declared.gate.Gate.{Gate}
 use Rattle.sheet.specs.declared.fault.Flaw.{Flaw}
 use Rattle.sheet.specs.declared.fault.Flaw.TheVariants.{Count}
 use Rattle.sheet.specs.declared.refusal.Refusal.{Refusal}
+use Rattle.sheet.specs.declared.refusal.Refused.{Refused}
 use Rattle.sheet.specs.declared.refusal.Refusal.TheVariants.{Wrong, Full}
 use Rattle.sheet.specs.declared.writer.Gates.{Gates}
 use Rattle.sheet.specs.declared.writer.Outputs.{Outputs}
@@ -13,9 +14,9 @@ use Rattle.sheet.specs.Format.{Output, output_bytes}
 use Rattle.sheet.specs.Written.{gates_end, outputs_start}
 
 -- the refusal that a call gave
-abbrev pub refused : {X W : Type 0} → Result X (W × Refusal) → Option Refusal
+abbrev pub refused : {X W : Type 0} → Result X (Refused W) → Option Refusal
 refused (Ok _) = None
-refused (Err e) = Some e.1
+refused (Err e) = Some e.refusal
 
 abbrev pub flawed : Option Flaw → Option Refusal
 flawed (Some f) = Some (Wrong f)

@@ -23,10 +23,7 @@ fn copy_gates(sheet: &Sheet, mut writer: Gates, place: &mut [u8]) -> Result<Gate
         let Some(gate) = sheet.gate(k) else {
             return Err(MISSING);
         };
-        writer = match writer.gate(place, gate) {
-            Ok(next) => next,
-            Err(back) => return Err(back.1),
-        };
+        writer = writer.gate(place, gate)?;
     }
     Ok(writer)
 }
@@ -43,10 +40,7 @@ fn copy_first(
     let Some(first) = records.next_output() else {
         return Err(MISSING);
     };
-    match writer.output(place, first.signal, first.name) {
-        Ok(next) => Ok(next),
-        Err(back) => Err(back.1),
-    }
+    Ok(writer.output(place, first.signal, first.name)?)
 }
 
 fn copy_others(
@@ -62,10 +56,7 @@ fn copy_others(
         let Some(next) = records.next_output() else {
             return Err(MISSING);
         };
-        writer = match writer.output(place, next.signal, next.name) {
-            Ok(more) => more,
-            Err(back) => return Err(back.1),
-        };
+        writer = writer.output(place, next.signal, next.name)?;
     }
     Ok(writer)
 }
@@ -73,10 +64,7 @@ fn copy_others(
 fn started(sheet: &Sheet, place: &mut [u8]) -> Result<Gates, Refusal>
     ensures { (c : Content) → Says sheet.now c → Started place.old c result place.new }
 {
-    match Opened.inputs(place, sheet.inputs()) {
-        Ok(writer) => Ok(writer),
-        Err(back) => Err(back.1),
-    }
+    Ok(Opened.inputs(place, sheet.inputs())?)
 }
 
 /// Writes what an accepted sheet says through the writer: it gives the same bytes, unless the place is too short for them.
@@ -88,8 +76,5 @@ pub fn copy(sheet: &Sheet, place: &mut [u8]) -> Result<Closed, Refusal>
     let mut records = sheet.output_records();
     let writer = copy_first(&mut records, writer, place)?;
     let writer = copy_others(sheet.outputs(), &mut records, writer, place)?;
-    match writer.close(place) {
-        Ok(closed) => Ok(closed),
-        Err(back) => Err(back.1),
-    }
+    Ok(writer.close(place)?)
 }

@@ -1,19 +1,12 @@
 //! Gate records: the seven bytes, named by a slice pattern, and what is wrong with them.
-ghost use Rattle.std.specs.Prelude.{◌≡◌, ◌+◌, ◌*◌, ◌<◌, length, drop, MatchOption};
+ghost use Rattle.std.specs.Prelude.{◌≡◌, ◌+◌, ◌*◌, ◌^◌, ◌<◌, length, drop, MatchOption};
 ghost use Rattle.sheet.specs.Format.{operand_fits, operand_flaw};
 ghost use Rattle.sheet.specs.Flaws.{gate_flaw};
-ghost use Rattle.sheet.specs.Record.{Seven, FirstFlaw, flaw_in};
+ghost use Rattle.sheet.specs.Record.{Seven, GateChecked, OperandChecked, flaw_in};
 
-use crate::fault::Flaw;
+use crate::fault::{FieldFault, Flaw};
 use crate::gate::Gate;
 use gates::{reads_b, reads_c};
-
-/// A number of two bytes.
-pub fn joined(high: u8, low: u8) -> u16
-    ensures { result ≡ 256 * high + low }
-{
-    256 * high as u16 + low as u16
-}
 
 /// Whether an operand is below the signal of its own gate, or 0 where the gate does not read it.
 pub fn operand_fits(read: bool, own: u16, operand: u16) -> bool
@@ -29,6 +22,20 @@ pub fn operand_flaw(read: bool) -> Flaw
     if read { Flaw::Signal } else { Flaw::Unused }
 }
 
+/// Finds whether the operand at a place is wrong.
+fn check_operand(read: bool, own: u16, operand: u16, place: usize) -> Result<(), FieldFault>
+    ensures { OperandChecked read own operand place result }
+{
+    if operand_fits(read, own, operand) {
+        Ok(())
+    } else {
+        Err(FieldFault {
+            flaw: operand_flaw(read),
+            place,
+        })
+    }
+}
+
 /// The gate record that some bytes begin with, where it is all there, and the bytes after it.
 pub fn record(bytes: &[u8]) -> Option<(Gate, &[u8])>
     ensures { MatchOption result (length bytes.now < 7) (λ g. Seven bytes.now g.0 × (g.1.now ≡ drop 7 bytes.now)) }
@@ -39,32 +46,27 @@ pub fn record(bytes: &[u8]) -> Option<(Gate, &[u8])>
     Some((
         Gate {
             kind: *kind,
-            a: joined(*a1, *a0),
-            b: joined(*b1, *b0),
-            c: joined(*c1, *c0),
+            a: u16::from_be_bytes([*a1, *a0]),
+            b: u16::from_be_bytes([*b1, *b0]),
+            c: u16::from_be_bytes([*c1, *c0]),
         },
         rest,
     ))
 }
 
-/// The first fault of a record, and at which of its bytes.
-pub fn first_flaw(gate: Gate, own: u16) -> Option<(Flaw, usize)>
-    ensures place { FirstFlaw own gate result }
+/// Finds the first fault of a gate record that starts at a place.
+pub fn check_gate(gate: Gate, own: u16, start: usize) -> Result<(), FieldFault>
+    requires { start + 5 < 2 ^ 64 }
+    ensures fault { GateChecked own gate start result }
     ensures flaw { flaw_in result ≡ gate_flaw own gate }
 {
     if gate.kind < 1 || gate.kind > 9 {
-        return Some((Flaw::Kind, 0));
+        return Err(FieldFault {
+            flaw: Flaw::Kind,
+            place: start,
+        });
     }
-    if !operand_fits(true, own, gate.a) {
-        return Some((Flaw::Signal, 1));
-    }
-    let b = reads_b(gate.kind);
-    if !operand_fits(b, own, gate.b) {
-        return Some((operand_flaw(b), 3));
-    }
-    let c = reads_c(gate.kind);
-    if !operand_fits(c, own, gate.c) {
-        return Some((operand_flaw(c), 5));
-    }
-    None
+    check_operand(true, own, gate.a, start + 1)?;
+    check_operand(reads_b(gate.kind), own, gate.b, start + 3)?;
+    check_operand(reads_c(gate.kind), own, gate.c, start + 5)
 }

@@ -6,7 +6,7 @@ ghost use Rattle.sheet.specs.Sections.{Ahead, item, output_in};
 use crate::output::{OutputRecord, output_record};
 
 /// The outputs that are still to come: the bytes from the next one on, and how many there are.
-#[derive(Clone, Copy)]
+#[derive(Clone, Copy, PartialEq, Eq, Debug)]
 pub struct OutputRecords<'a> {
     rest: &'a [u8],
     left: u16,

@@ -12,7 +12,7 @@ use crate::records::OutputRecords;
 use crate::shape::Shape;
 
 /// A sheet without fault, and what it has.
-#[derive(Clone, Copy)]
+#[derive(Clone, Copy, PartialEq, Eq, Debug)]
 pub struct Sheet<'a> {
     bytes: &'a [u8],
     shape: Shape,

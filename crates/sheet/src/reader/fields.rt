@@ -7,7 +7,7 @@ ghost use Rattle.sheet.specs.View.{Step, PartStep};
 
 use crate::fault::{FieldFault, Flaw};
 use crate::reader::Reader;
-use crate::record::{joined, operand_fits, operand_flaw};
+use crate::record::{operand_fits, operand_flaw};
 
 impl<'a> Reader<'a> {
     /// One byte.
@@ -35,7 +35,7 @@ impl<'a> Reader<'a> {
                 place: self.sheet.len(),
             });
         }
-        let number = joined(self.sheet[self.place], self.sheet[self.place + 1]);
+        let number = u16::from_be_bytes([self.sheet[self.place], self.sheet[self.place + 1]]);
         self.place += 2;
         Ok(number)
     }

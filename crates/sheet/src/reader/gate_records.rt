@@ -6,7 +6,7 @@ ghost use Rattle.sheet.specs.View.{Step};
 use crate::fault::{FieldFault, Flaw};
 use crate::gate::Gate;
 use crate::reader::Reader;
-use crate::record::{first_flaw, record};
+use crate::record::{check_gate, record};
 use gates::{reads_b, reads_c};
 
 impl<'a> Reader<'a> {
@@ -29,12 +29,7 @@ impl<'a> Reader<'a> {
         let Some((gate, rest)) = record(&sheet[self.place..]) else {
             return self.gate_by_fields(own);
         };
-        if let Some((flaw, at)) = first_flaw(gate, own) {
-            return Err(FieldFault {
-                flaw,
-                place: self.place + at,
-            });
-        }
+        check_gate(gate, own, self.place)?;
         self.place = sheet.len() - rest.len();
         Ok(gate)
     }

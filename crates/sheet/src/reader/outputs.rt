@@ -14,12 +14,7 @@ use crate::reader::Reader;
 pub fn visible(name: &[u8]) -> bool
     ensures { result ≡ all_visible name.now }
 {
-    for b in name {
-        if *b < 33 || *b > 126 {
-            return false;
-        }
-    }
-    true
+    name.iter().all(|byte| byte.is_ascii_graphic())
 }
 
 /// Whether one of the first `count` outputs in some bytes has this name.

@@ -1,10 +1,10 @@
 //! The sections in turn, each of whose faults gains its section.
 ghost use Rattle.std.specs.Prelude.{◌≡◌, ◌≤◌};
 ghost use Rattle.sheet.specs.Format.{gate_section};
-ghost use Rattle.sheet.specs.Sections.{located, Checked};
+ghost use Rattle.sheet.specs.Sections.{Checked};
 ghost use Rattle.sheet.specs.View.{Step, counted};
 
-use crate::fault::{FieldFault, Flaw, SheetFault};
+use crate::fault::{FieldFault, Flaw, Section, SheetFault};
 use crate::reader::Reader;
 use crate::shape::Shape;
 
@@ -22,33 +22,27 @@ impl<'a> Reader<'a> {
     }
 }
 
-/// The answer of a section's field, whose fault gains the section.
-pub fn placed<T>(answer: Result<T, FieldFault>, section: u8) -> Result<T, SheetFault>
-    ensures { result ≡ located section answer }
-{
-    match answer {
-        Ok(value) => Ok(value),
-        Err(e) => Err(SheetFault {
-            flaw: e.flaw,
-            section,
-            place: e.place,
-        }),
-    }
-}
-
 /// Reads a whole sheet: what it has, or its first fault.
 pub fn check(sheet: &[u8]) -> Result<Shape, SheetFault>
     ensures { Checked sheet.now result }
 {
     let mut reader = Reader { sheet, place: 0 };
-    let _ = placed(reader.byte_within(1, 1, Flaw::Edition), 0)?;
-    let inputs = placed(reader.number_within(1, 64, Flaw::Count), 1)?;
-    let gates = placed(reader.gates(inputs), 2)?;
-    let outputs = placed(reader.outputs(inputs + 2 + gates), 3)?;
+    let _ = reader
+        .byte_within(1, 1, Flaw::Edition)
+        .map_err(|fault| fault.in_section(Section::Whole))?;
+    let inputs = reader
+        .number_within(1, 64, Flaw::Count)
+        .map_err(|fault| fault.in_section(Section::Inputs))?;
+    let gates = reader
+        .gates(inputs)
+        .map_err(|fault| fault.in_section(Section::Gates))?;
+    let outputs = reader
+        .outputs(inputs + 2 + gates)
+        .map_err(|fault| fault.in_section(Section::Outputs))?;
     if reader.place < sheet.len() {
         return Err(SheetFault {
             flaw: Flaw::Extra,
-            section: 0,
+            section: Section::Whole,
             place: reader.place,
         });
     }

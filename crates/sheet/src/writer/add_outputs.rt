@@ -1,37 +1,52 @@
 //! The calls that write the outputs. No gate comes after the first.
-ghost use Rattle.std.specs.Prelude.{◌≡◌, ℕ, ◌+◌, ◌≤◌, List, length};
+ghost use Rattle.std.specs.Prelude.{◌≡◌, ℕ, ◌+◌, ◌≤◌, List, length, IfOk};
+ghost use Rattle.sheet.specs.Faults.{found};
 ghost use Rattle.sheet.specs.Format.{Content, names, output_bytes};
-ghost use Rattle.sheet.specs.Written.{named, put as written, Starting, AddingOutput, HoldsOutputs};
+ghost use Rattle.sheet.specs.Written.{named, put as written, Starting, AddingOutput, RoomForFirst, RoomForOutput, HoldsOutputs};
 ghost use Rattle.sheet.specs.Refusals.{refused, first_output_refusal, output_refusal};
 
 use crate::fault::Flaw;
 use crate::output::bytes_from;
-use crate::refusal::Refusal;
-use crate::writer::bytes::number_bytes;
-use crate::writer::names::flaw_of;
+use crate::refusal::{Refusal, Refused};
+use crate::writer::names::check_output;
 use crate::writer::{Gates, Outputs, put};
 
 impl Gates {
+    /// Where the first output ends in a place of `room` bytes, or why it is not written.
+    fn end_of_first(&self, signal: u16, name: &[u8], room: usize) -> Result<usize, Refusal>
+        ensures goes { IfOk result (RoomForFirst self.now (named signal name.now) room) }
+        ensures refusal { found result ≡ first_output_refusal room self.now (named signal name.now) }
+    {
+        check_output(signal, name, self.inputs + 2 + self.gates, &[], 0)?;
+        let end = 5 + 7 * self.gates as usize + 5 + name.len();
+        if room < end {
+            return Err(Refusal::Full);
+        }
+        Ok(end)
+    }
+
     /// Writes the first output: no gate comes after it.
     pub fn output(
         self,
         place: &mut [u8],
         signal: u16,
         name: &[u8],
-    ) -> Result<Outputs, (Gates, Refusal)>
+    ) -> Result<Outputs, Refused<Gates>>
         ensures state { Starting place.old self (named signal name.now) result place.new }
         ensures refusal { refused result ≡ first_output_refusal (length place.old) self (named signal name.now) }
     {
-        if let Some(flaw) = flaw_of(signal, name, self.inputs + 2 + self.gates, &[], 0) {
-            return Err((self, Refusal::Wrong(flaw)));
-        }
-        let at = 5 + 7 * self.gates as usize;
-        let end = at + 5 + name.len();
-        if place.len() < end {
-            return Err((self, Refusal::Full));
-        }
+        let end = match self.end_of_first(signal, name, place.len()) {
+            Ok(end) => end,
+            Err(refusal) => {
+                return Err(Refused {
+                    writer: self,
+                    refusal,
+                });
+            }
+        };
         let Gates { inputs, gates } = self;
-        put(place, at, &number_bytes(1));
+        let at = 5 + 7 * gates as usize;
+        put(place, at, &1u16.to_be_bytes());
         put_output(place, at + 2, signal, name);
         Ok(Outputs {
             inputs,
@@ -43,34 +58,50 @@ impl Gates {
 }
 
 impl Outputs {
+    /// Where one more output ends in a place, or why it is not written.
+    fn end_of_output(&self, place: &[u8], signal: u16, name: &[u8]) -> Result<usize, Refusal>
+        ensures goes { IfOk result (RoomForOutput self.now (named signal name.now) (length place.now)) }
+        ensures refusal { (before : List ℕ) (c : Content) → HoldsOutputs before place.now self.now c →
+            found result ≡ output_refusal (length place.now) self.now (names c.outputs) (named signal name.now) }
+    {
+        if self.outputs == 256 {
+            return Err(Refusal::Wrong(Flaw::Count));
+        }
+        let earlier = bytes_from(place, 5 + 7 * self.gates as usize + 2);
+        check_output(
+            signal,
+            name,
+            self.inputs + 2 + self.gates,
+            earlier,
+            self.outputs,
+        )?;
+        let end = self.end + 3 + name.len();
+        if place.len() < end {
+            return Err(Refusal::Full);
+        }
+        Ok(end)
+    }
+
     /// Writes one more output.
     pub fn output(
         self,
         place: &mut [u8],
         signal: u16,
         name: &[u8],
-    ) -> Result<Outputs, (Outputs, Refusal)>
+    ) -> Result<Outputs, Refused<Outputs>>
         ensures state { AddingOutput place.old self (named signal name.now) result place.new }
         ensures refusal { (before : List ℕ) (c : Content) → HoldsOutputs before place.old self c →
             refused result ≡ output_refusal (length place.old) self (names c.outputs) (named signal name.now) }
     {
-        if self.outputs == 256 {
-            return Err((self, Refusal::Wrong(Flaw::Count)));
-        }
-        let at = 5 + 7 * self.gates as usize;
-        if let Some(flaw) = flaw_of(
-            signal,
-            name,
-            self.inputs + 2 + self.gates,
-            bytes_from(place, at + 2),
-            self.outputs,
-        ) {
-            return Err((self, Refusal::Wrong(flaw)));
-        }
-        let end = self.end + 3 + name.len();
-        if place.len() < end {
-            return Err((self, Refusal::Full));
-        }
+        let end = match self.end_of_output(place, signal, name) {
+            Ok(end) => end,
+            Err(refusal) => {
+                return Err(Refused {
+                    writer: self,
+                    refusal,
+                });
+            }
+        };
         let Outputs {
             inputs,
             gates,
@@ -78,7 +109,7 @@ impl Outputs {
             end: before,
         } = self;
         put_output(place, before, signal, name);
-        put(place, at, &number_bytes(outputs + 1));
+        put(place, 5 + 7 * gates as usize, &(outputs + 1).to_be_bytes());
         Ok(Outputs {
             inputs,
             gates,
@@ -94,7 +125,7 @@ fn put_output(place: &mut [u8], at: usize, signal: u16, name: &[u8])
     requires small { length name.now ≤ 16 }
     ensures { place.new ≡ written place.old at (output_bytes (named signal name.now)) }
 {
-    put(place, at, &number_bytes(signal));
+    put(place, at, &signal.to_be_bytes());
     put(place, at + 2, &[name.len() as u8]);
     put(place, at + 3, name);
 }

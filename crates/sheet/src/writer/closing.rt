@@ -4,36 +4,45 @@ ghost use Rattle.sheet.specs.Closing.{Closing, ReadsBack};
 ghost use Rattle.sheet.specs.Refusals.{refused, close_refusal, without_outputs};
 
 use crate::fault::{Flaw, SheetFault};
-use crate::refusal::Refusal;
+use crate::refusal::{Refusal, Refused};
 use crate::sheet::Sheet;
 use crate::writer::{Closed, Gates, Opened, Outputs};
 
 impl Opened {
     /// Refuses: the sheet has no outputs.
-    pub fn close(self, _place: &[u8]) -> Result<Closed, (Opened, Refusal)>
-        ensures { result ≡ Err (self, without_outputs) }
+    pub fn close(self, _place: &[u8]) -> Result<Closed, Refused<Opened>>
+        ensures { result ≡ Err (record { writer = self; refusal = without_outputs }) }
     {
-        Err((self, Refusal::Wrong(Flaw::Count)))
+        Err(Refused {
+            writer: self,
+            refusal: Refusal::Wrong(Flaw::Count),
+        })
     }
 }
 
 impl Gates {
     /// Refuses: the sheet has no outputs.
-    pub fn close(self, _place: &[u8]) -> Result<Closed, (Gates, Refusal)>
-        ensures { result ≡ Err (self, without_outputs) }
+    pub fn close(self, _place: &[u8]) -> Result<Closed, Refused<Gates>>
+        ensures { result ≡ Err (record { writer = self; refusal = without_outputs }) }
     {
-        Err((self, Refusal::Wrong(Flaw::Count)))
+        Err(Refused {
+            writer: self,
+            refusal: Refusal::Wrong(Flaw::Count),
+        })
     }
 }
 
 impl Outputs {
     /// Closes the sheet: no record comes after this.
-    pub fn close(self, place: &[u8]) -> Result<Closed, (Outputs, Refusal)>
+    pub fn close(self, place: &[u8]) -> Result<Closed, Refused<Outputs>>
         ensures state { Closing place.now self result }
         ensures refusal { refused result ≡ close_refusal (length place.now) self }
     {
         if place.len() < self.end {
-            return Err((self, Refusal::Full));
+            return Err(Refused {
+                writer: self,
+                refusal: Refusal::Full,
+            });
         }
         let Outputs {
             inputs: _,

@@ -5,11 +5,11 @@ ghost use Rattle.std.specs.Prelude.{◌≡◌, ◌+◌, ◌*◌, ◌≤◌, leng
 ghost use Rattle.sheet.specs.Places.{put as written};
 
 /// A sheet of which nothing is written.
-#[derive(Drop)]
+#[derive(Drop, PartialEq, Eq, Debug)]
 pub struct Opened;
 
 /// A sheet whose inputs are written, and so many gates.
-#[derive(Drop)]
+#[derive(Drop, PartialEq, Eq, Debug)]
 pub struct Gates {
     inputs: u16,
     gates: u16,
@@ -18,7 +18,7 @@ pub struct Gates {
 }
 
 /// A sheet whose gates are written, and so many outputs, at least one; `end` is where its bytes end.
-#[derive(Drop)]
+#[derive(Drop, PartialEq, Eq, Debug)]
 pub struct Outputs {
     inputs: u16,
     gates: u16,
@@ -32,7 +32,7 @@ pub struct Outputs {
 }
 
 /// A closed sheet of so many bytes, at the front of its place.
-#[derive(Clone, Copy)]
+#[derive(Clone, Copy, PartialEq, Eq, Debug)]
 pub struct Closed {
     size: usize,
 }

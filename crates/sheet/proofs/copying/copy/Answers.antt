@@ -5,8 +5,8 @@ use Rattle.sheet.specs.Copying.{Halfway, with_outputs}
 use Rattle.sheet.proofs.Copies.{copy_is, handed_on}
 use Rattle.sheet.proofs.copying.copy.Goals as goal
 
-pub returns-in-Ok : goal.returns-in-Ok
-returns-in-Ok c = λ d s.
+pub returns : goal.returns
+returns c = λ d s.
     let b : List ℕ = c.args.place.now in
     let st = c.in_ok-writer.ensures d s in
     let g = c.in_ok-writer-2.ensures b d s st.0 st.1 in
@@ -14,10 +14,10 @@ returns-in-Ok c = λ d s.
     let f = c.in_ok-writer-3.ensures.written b d s.lawful a g.0 g.1 in
     let half : Halfway b d 1 c.copy_first.new.records c.copy_first.new.place c.in_ok-writer-3.writer = record { lawful = s.lawful; ahead = c.in_ok-writer-3.ensures.ahead d a; holds = f } in
     let o = c.in_ok-writer-4.ensures b d (c.outputs.ensures d s) half in
-    copy_is b c.copy_others.new.place c.args.sheet.now.bytes.now c.args.sheet.now.shape d c.outputs.result c.in_ok-writer-4.writer c.in-Ok.closed s (c.outputs.ensures d s) o c.in-Ok.ensures.state.1
+    copy_is b c.copy_others.new.place c.args.sheet.now.bytes.now c.args.sheet.now.shape d c.outputs.result c.in_ok-writer-4.writer c.in_ok-close.field-0 s (c.outputs.ensures d s) o c.in_ok-close.ensures.state.1
 
-pub returns-in-Err : goal.returns-in-Err
-returns-in-Err c = λ d s.
+pub returns-in_err-close : goal.returns-in_err-close
+returns-in_err-close c = λ d s.
     let b : List ℕ = c.args.place.now in
     let st = c.in_ok-writer.ensures d s in
     let g = c.in_ok-writer-2.ensures b d s st.0 st.1 in
@@ -25,7 +25,7 @@ returns-in-Err c = λ d s.
     let f = c.in_ok-writer-3.ensures.written b d s.lawful a g.0 g.1 in
     let half : Halfway b d 1 c.copy_first.new.records c.copy_first.new.place c.in_ok-writer-3.writer = record { lawful = s.lawful; ahead = c.in_ok-writer-3.ensures.ahead d a; holds = f } in
     let o = c.in_ok-writer-4.ensures b d (c.outputs.ensures d s) half in
-    absurd (c.in-Err.ensures.state.1 b (with_outputs d c.outputs.result) o)
+    absurd (c.in_err-close.ensures.state.1 b (with_outputs d c.outputs.result) o)
 
 pub returns-in_err-writer-3 : goal.returns-in_err-writer-3
 returns-in_err-writer-3 c = λ d s.

@@ -1,6 +1,7 @@
 -- What is left to show of `output::output_record`, beyond what the search finds.
 use Rattle.std.proofs.Common.{◌≡◌, ℕ, ◌-◌, List, length, get_or, take, drop, ap, ◌∙◌, arith, rules}
 use Rattle.std.proofs.lemmas.List.{take_rest}
+use Rattle.sheet.proofs.Fields.{joined_bytes}
 use Rattle.sheet.proofs.output.output_record.Goals as goal
 
 pub returns : goal.returns
@@ -12,7 +13,7 @@ returns c =
     record {
       long = search rules;
       fits = omega (arith, c.if-rest-size.false, ap length tail);
-      signal = c.joined.ensures;
+      signal = c.from_be_bytes.ensures ∙ joined_bytes _ _;
       name = λ i. take (z i) (tail i);
       rest = c.bytes_from.ensures ∙ ap (drop size) tail;
     }

@@ -2,6 +2,7 @@
 use Rattle.std.proofs.Common.{◌+◌, ◌<◌, length, drop, refl, ap, ◌∙◌, arith}
 use Rattle.sheet.specs.Reading.{number, got}
 use Rattle.sheet.proofs.Steps.{number_short, number_at, cut_off}
+use Rattle.sheet.proofs.Fields.{joined_bytes}
 use Rattle.sheet.proofs.reader.Reader.number.Goals as goal
 
 pub returns-then-self-lt2 : goal.returns-then-self-lt2
@@ -10,4 +11,4 @@ returns-then-self-lt2 c = cut_off (λ x. x) number c.args.self.now (number_short
 pub returns : goal.returns
 returns c =
     let room : c.args.self.now.place + 1 < length c.args.self.now.sheet.now = omega arith in
-    record { sheet = refl; reads = ap (λ n. got n (drop (c.args.self.now.place + 2) c.args.self.now.sheet.now)) c.joined-number.ensures ∙ number_at c.args.self.now.sheet.now c.args.self.now.place room; inside = tt }
+    record { sheet = refl; reads = ap (λ n. got n (drop (c.args.self.now.place + 2) c.args.self.now.sheet.now)) (c.from_be_bytes-number.ensures ∙ joined_bytes _ _) ∙ number_at c.args.self.now.sheet.now c.args.self.now.place room; inside = tt }

@@ -1,31 +1,22 @@
 -- What is left to show of `writer::Gates::output`, beyond what the search finds.
-use Rattle.std.proofs.Common.{◌≡◌, ℕ, ◌+◌, [], length, sym, refl, ap, ◌∙◌, arith}
+use Rattle.std.proofs.Common.{◌≡◌, ℕ, ◌+◌, refl, ap, ◌∙◌, arith}
 use Rattle.sheet.specs.Format.{output_bytes, number_bytes, Output}
 use Rattle.sheet.specs.Written.{put, gates_end, named}
-use Rattle.sheet.proofs.Writing.{start_outputs, no_flaw}
-use Rattle.sheet.proofs.Refusing.{wrong_first, full_first, taken_first}
+use Rattle.sheet.proofs.Writing.{start_outputs}
+use Rattle.sheet.proofs.Fields.{two_bytes}
 use Rattle.sheet.proofs.writer.Gates.output.Goals as goal
 
-pub returns-in-Some : goal.returns-in-Some
-returns-in-Some c = record { state = (refl, refl); refusal = wrong_first (length c.args.place.now) c.args.self (named c.args.signal c.args.name.now) c.in-Some.flaw (c.in-Some.ensures.flaw tt) }
-
-pub returns-then-place-end : goal.returns-then-place-end
-returns-then-place-end c = record { state = (refl, refl); refusal = full_first (length c.args.place.now) c.args.self (named c.args.signal c.args.name.now) (c.in_default.ensures.flaw tt) (omega arith) }
-
-pub returns : goal.returns
-returns c =
+pub returns-clause-state : goal.returns-clause-state
+returns-clause-state c =
     let o : Output = named c.args.signal c.args.name.now in
     let at : ℕ = gates_end c.args.self.gates in
     let wrote : c.put_output.new.place ≡ put (put c.args.place.now at (number_bytes 1)) (at + 2) (output_bytes o) =
-    c.put_output.ensures ∙ ap (λ l. put l (at + 2) (output_bytes o)) (c.put.ensures ∙ ap (put c.args.place.now at) c.number_bytes.ensures) in
+    c.put_output.ensures ∙ ap (λ l. put l (at + 2) (output_bytes o)) (c.put.ensures ∙ ap (put c.args.place.now at) (c.to_be_bytes.ensures ∙ two_bytes 1 (omega arith))) in
     record {
-      state = record {
-        inputs = refl;
-        gates = refl;
-        outputs = refl;
-        end = omega arith;
-        writes = wrote;
-        holds = start_outputs c.args.place.now c.put_output.new.place c.args.self _ o refl refl refl (omega arith) (no_flaw _ [] o (sym (c.in_default.ensures.flaw tt))) wrote;
-      };
-      refusal = taken_first (length c.args.place.now) c.args.self o (c.in_default.ensures.flaw tt) (omega arith);
+      inputs = refl;
+      gates = refl;
+      outputs = refl;
+      end = c.in-Ok.ensures.goes.end;
+      writes = wrote;
+      holds = start_outputs c.args.place.now c.put_output.new.place c.args.self _ o refl refl refl c.in-Ok.ensures.goes.end c.in-Ok.ensures.goes.fits wrote;
     }

@@ -5,6 +5,7 @@ use Rattle.std.proofs.lemmas.Bool.Decides.{nat_tests}
 use Rattle.std.proofs.lemmas.Bool.{le-leb}
 use Rattle.sheet.specs.Written.{put}
 use Rattle.sheet.proofs.Writing.{opened}
+use Rattle.sheet.proofs.Fields.{two_bytes}
 use Rattle.sheet.proofs.writer.Opened.inputs.Goals as goal
 
 pub returns : goal.returns
@@ -15,7 +16,7 @@ returns c =
       state = (
         refl,
         record {
-          is = c.put-3.ensures ∙ (λ i. put ((c.put-2.ensures ∙ (λ j. put (c.put.ensures j) 1 (c.number_bytes.ensures j))) i) 3 (c.number_bytes-2.ensures i)) ∙ opened c.args.inputs c.args.place.now (omega arith);
+          is = c.put-3.ensures ∙ (λ i. put ((c.put-2.ensures ∙ (λ j. put (c.put.ensures j) 1 ((c.to_be_bytes.ensures ∙ two_bytes c.args.inputs (omega arith)) j))) i) 3 ((c.to_be_bytes-2.ensures ∙ two_bytes 0 (omega arith)) i)) ∙ opened c.args.inputs c.args.place.now (omega arith);
           many = refl;
           some = fits;
           fits = tt;
