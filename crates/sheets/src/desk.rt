@@ -145,9 +145,9 @@ fn copied(rt: &HostRuntime, bytes: &[u8], place: &mut [u8]) -> anyhow::Result<()
             Ok(())
         }
         Err(refusal) => {
-                println!(rt; "refused {refusal}")?;
-                Ok(())
-            }
+            println!(rt; "refused {refusal}")?;
+            Ok(())
+        }
     }
 }
 

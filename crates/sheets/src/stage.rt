@@ -1,6 +1,6 @@
 //! The writer of a script, whichever state it is in.
-use sheet::writer::{Closed, Gates, Opened, Outputs, Refused};
-use sheet::{Gate, Refusal};
+use sheet::writer::{Closed, Gates, Opened, Outputs};
+use sheet::{Gate, Refusal, Refused};
 use std::fmt;
 
 /// A writer's state.
