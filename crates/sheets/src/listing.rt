@@ -40,11 +40,8 @@ fn gates(rt: &HostRuntime, sheet: &Sheet) -> anyhow::Result<()> {
 }
 
 fn outputs(rt: &HostRuntime, sheet: &Sheet) -> anyhow::Result<()> {
-    let mut records = sheet.output_records();
-    for _ in 0..sheet.outputs() {
-        if let Some(record) = records.next_output() {
-            output(rt, record)?;
-        }
+    for record in sheet.output_records() {
+        output(rt, record)?;
     }
     Ok(())
 }
