@@ -1,5 +1,5 @@
 -- The steps of writing what an accepted sheet says.
-use Rattle.std.proofs.Common.{◌≡◌, ℕ, zero, suc, ◌+◌, ◌<◌, ◌≤◌, Bool, true, false, leb, List, [], ◌∷◌, ◌++◌, length, get_or, take, drop, Some, None, Err, Result, sym, refl, ap, ◌∙◌, subst, append_assoc, append-nil, arith}
+use Rattle.std.proofs.Common.{◌≡◌, ℕ, zero, suc, ◌+◌, ◌<◌, ◌≤◌, Bool, true, false, leb, List, [], ◌∷◌, ◌++◌, length, get_or, take, drop, Some, None, sym, refl, ap, ◌∙◌, subst, append_assoc, append-nil, arith}
 use Rattle.std.proofs.lemmas.List.{length-append, take_more, length-take-le, flat_map_more, take_all}
 use Rattle.std.proofs.lemmas.Bool.{lt-ltb, leb-false, leb-true, and_parts}
 use Rattle.std.specs.List.{flat_map}
@@ -7,22 +7,52 @@ use Rattle.gates.specs.Kinds.{between}
 use Rattle.sheet.specs.declared.gate.Gate.{Gate}
 use Rattle.sheet.specs.declared.refusal.Refusal.{Refusal}
 use Rattle.sheet.specs.declared.refusal.Refusal.TheVariants.{Full}
-use Rattle.sheet.specs.declared.records.OutputRecords.{OutputRecords}
-use Rattle.sheet.specs.declared.shape.Shape.{Shape}
+use Rattle.sheet.specs.declared.sheet.Sheet.{Sheet}
 use Rattle.sheet.specs.declared.writer.Closed.{Closed}
 use Rattle.sheet.specs.declared.writer.Gates.{Gates}
 use Rattle.sheet.specs.declared.writer.Outputs.{Outputs}
 use Rattle.sheet.specs.Closing.{HoldsSheet}
-use Rattle.sheet.specs.Copying.{with_outputs, Halfway, Copied}
 use Rattle.sheet.specs.Flaws.{unless, gate_flaw, output_flaw}
 use Rattle.sheet.specs.Format.{Content, Output, output_bytes, encode, names}
 use Rattle.sheet.specs.Laws.{EachFits, GateFits, NextGateFits, OutputFits, NextOutputFits, Lawful}
 use Rattle.sheet.specs.Refusals.{gate_refusal, first_output_refusal, output_refusal}
-use Rattle.sheet.specs.Sections.{BytesSay, Ahead, item}
+use Rattle.sheet.specs.Sections.{said, item}
 use Rattle.sheet.specs.Written.{gates_end, outputs_start, HoldsGates, HoldsOutputs, WroteGate, WroteFirst, WroteOutput}
 use Rattle.sheet.proofs.Flawed.{flaw_none}
-use Rattle.sheet.proofs.Parts.{item_at, item_drop, ahead_step}
+use Rattle.sheet.proofs.Parts.{item_at}
 use Rattle.sheet.proofs.Writing.{encode_long}
+
+-- what was given, with its first `k` outputs
+abbrev pub with_outputs : Content → ℕ → Content
+with_outputs c k = record { inputs = c.inputs; gates = c.gates; outputs = take k c.outputs }
+
+-- the gates are written up to those that lie ahead
+pub record GatesSoFar (before : List ℕ) (c : Content) (ahead : List Gate) (place : List ℕ) (w : Gates) : Type 0 where
+  pub inputs : w.inputs ≡ c.inputs
+  pub holds : HoldsGates before place w (take w.gates c.gates)
+  pub rest : ahead ≡ drop w.gates c.gates
+
+-- the outputs are written up to those that lie ahead
+pub record OutputsSoFar (before : List ℕ) (c : Content) (ahead : List Output) (place : List ℕ) (w : Outputs) : Type 0 where
+  pub holds : HoldsOutputs before place w (with_outputs c w.outputs)
+  pub rest : ahead ≡ drop w.outputs c.outputs
+
+-- the next of what lies ahead
+pub record Turn {X : Type 0} (xs : List X) (k : ℕ) (x : X) (rest : List X) : Type 0 where
+  pub inside : k < length xs
+  pub item : Some x ≡ item xs k
+  pub others : rest ≡ drop (k + 1) xs
+
+turn : {X : Type 0} (xs : List X) (k : ℕ) (x : X) (rest : List X) → x ∷ rest ≡ drop k xs → Turn xs k x rest
+turn [] zero x rest e = absurd (cc)
+turn [] (suc k) x rest e = absurd (cc)
+turn (y ∷ xs) zero x rest e = record { inside = omega arith; item = (cc); others = (cc) }
+turn (y ∷ xs) (suc k) x rest e = let t = turn xs k x rest e in record { inside = omega (arith, t.inside); item = t.item; others = t.others ∙ (let n : suc (k + 1) ≡ suc k + 1 = omega arith in ap (λ m. drop m (y ∷ xs)) n) }
+
+over : {X : Type 0} (xs : List X) (k : ℕ) → [] ≡ drop k xs → length xs ≤ k
+over [] k e = omega arith
+over (y ∷ xs) zero e = absurd (cc)
+over (y ∷ xs) (suc k) e = omega (arith, over xs k e)
 
 -- a record that comes in its turn fits
 fits_at : {X : Type 0} (Fits : List X → X → Type 0) (done xs : List X) (k : ℕ) (d : X) → EachFits Fits done xs → k < length xs → Fits (done ++ take k xs) (get_or xs k d)
@@ -32,11 +62,6 @@ fits_at Fits done (x ∷ xs) (suc k) d f h = subst (λ l. Fits l (get_or xs k d)
 
 item_is : {X : Type 0} (xs : List X) (k : ℕ) (x : X) → k < length xs → Some x ≡ item xs k → x ≡ get_or xs k x
 item_is xs k x h e = let q : Some x ≡ Some (get_or xs k x) = e ∙ sym (item_at xs k x h) in cc
-
-pub no_item : {X : Type 0} (xs : List X) (k : ℕ) → k < length xs → None ≡ item xs k → ⊥
-no_item [] k h e = omega arith
-no_item (x ∷ xs) zero h e = let z : ◌≡◌ {A = ℕ} 0 1 = cc in omega arith
-no_item (x ∷ xs) (suc k) h e = no_item xs k (omega arith) e
 
 taken : {X : Type 0} (xs : List X) (k : ℕ) (x : X) → k < length xs → Some x ≡ item xs k → take k xs ++ x ∷ [] ≡ take (k + 1) xs
 taken xs k x h e = ap (λ y. take k xs ++ y ∷ []) (item_is xs k x h e) ∙ sym (take_more xs k x h)
@@ -63,7 +88,7 @@ gate_fits c k w g l h e i n =
 gate_room : (c : Content) (k : ℕ) → k < length c.gates → gates_end k + 7 ≤ length (encode c)
 gate_room c k h = omega (arith, encode_long c)
 
-pub full_at_gate : (before place : List ℕ) (c : Content) (k : ℕ) (w : Gates) (g : Gate) (e : Refusal) → Lawful c → k < length c.gates → Some g ≡ item c.gates k → w.inputs ≡ c.inputs → HoldsGates before place w (take k c.gates)
+full_at_gate : (before place : List ℕ) (c : Content) (k : ℕ) (w : Gates) (g : Gate) (e : Refusal) → Lawful c → k < length c.gates → Some g ≡ item c.gates k → w.inputs ≡ c.inputs → HoldsGates before place w (take k c.gates)
     → Some e ≡ gate_refusal (length place) w g → (e ≡ Full) × (length place < length (encode c))
 full_at_gate before place c k w g e l h i same holds r =
     let m : length (take k c.gates) ≡ k = length-take-le k c.gates (omega arith) in
@@ -75,13 +100,29 @@ full_at_gate before place c k w g e l h i same holds r =
     let q = only_full (gates_end w.gates + 7) (length place) e (r ∙ is) in
     (q.0, omega (arith, q.1, n, gate_room c k h))
 
-pub gate_copied : (before place after : List ℕ) (c : Content) (k : ℕ) (w v : Gates) (g : Gate) → k < length c.gates → Some g ≡ item c.gates k → w.inputs ≡ c.inputs → HoldsGates before place w (take k c.gates)
-    → WroteGate place w g v after → (v.inputs ≡ c.inputs) × HoldsGates before after v (take (k + 1) c.gates)
-gate_copied before place after c k w v g h i same holds wrote =
-    (wrote.inputs ∙ same, subst (HoldsGates before after v) (taken c.gates k g h i) (wrote.holds before (take k c.gates) holds))
+pub no_gates_yet : (before place : List ℕ) (c : Content) (ahead : List Gate) (w : Gates) → ahead ≡ c.gates → w.inputs ≡ c.inputs → HoldsGates before place w [] → GatesSoFar before c ahead place w
+no_gates_yet before place c ahead w a i h =
+    let z : 0 ≡ w.gates = h.many in
+    record { inputs = i; holds = subst (HoldsGates before place w) (ap (λ n. take n c.gates) z) h; rest = a ∙ ap (λ n. drop n c.gates) z }
 
-pub gates_copied : (before place : List ℕ) (c : Content) (k : ℕ) (w : Gates) → length c.gates ≤ k → (w.inputs ≡ c.inputs) × HoldsGates before place w (take k c.gates) → (w.inputs ≡ c.inputs) × HoldsGates before place w c.gates
-gates_copied before place c k w h p = (p.0, subst (HoldsGates before place w) (take_all k c.gates h) p.1)
+pub one_more_gate : (before place after : List ℕ) (c : Content) (ahead rest : List Gate) (w v : Gates) (g : Gate) → GatesSoFar before c ahead place w → ahead ≡ g ∷ rest → WroteGate place w g v after → GatesSoFar before c rest after v
+one_more_gate before place after c ahead rest w v g s e wrote =
+    let t = turn c.gates w.gates g rest (sym e ∙ s.rest) in
+    let holds : HoldsGates before after v (take (w.gates + 1) c.gates) = subst (HoldsGates before after v) (taken c.gates w.gates g t.inside t.item) (wrote.holds before (take w.gates c.gates) s.holds) in
+    record {
+      inputs = wrote.inputs ∙ s.inputs;
+      holds = subst (λ n. HoldsGates before after v (take n c.gates)) (sym wrote.gates) holds;
+      rest = t.others ∙ ap (λ n. drop n c.gates) (sym wrote.gates);
+    }
+
+pub all_gates : (before place : List ℕ) (c : Content) (ahead : List Gate) (w : Gates) → GatesSoFar before c ahead place w → ahead ≡ [] → (w.inputs ≡ c.inputs) × HoldsGates before place w c.gates
+all_gates before place c ahead w s e = (s.inputs, subst (HoldsGates before place w) (take_all w.gates c.gates (over c.gates w.gates (sym e ∙ s.rest))) s.holds)
+
+pub no_room_for_gate : (before place : List ℕ) (c : Content) (ahead rest : List Gate) (w : Gates) (g : Gate) (e : Refusal) → Lawful c → GatesSoFar before c ahead place w → ahead ≡ g ∷ rest
+    → Some e ≡ gate_refusal (length place) w g → (e ≡ Full) × (length place < length (encode c))
+no_room_for_gate before place c ahead rest w g e l s h r =
+    let t = turn c.gates w.gates g rest (sym h ∙ s.rest) in
+    full_at_gate before place c w.gates w g e l t.inside t.item s.inputs s.holds r
 
 -- outputs
 no_output_flaw : (signals : ℕ) (earlier : List (List ℕ)) (o : Output) → OutputFits signals earlier o → output_flaw signals earlier o ≡ None
@@ -113,62 +154,61 @@ output_room c k o h e =
 pub some_outputs : (c : Content) → Lawful c → 0 < length c.outputs
 some_outputs c l = leb-true 1 (length c.outputs) (and_parts (leb 1 (length c.outputs)) (leb (length c.outputs) 256) l.few_outputs).0
 
-pub first_copied : (before place after : List ℕ) (c : Content) (w : Gates) (o : Output) (v : Outputs) → Lawful c → Some o ≡ item c.outputs 0 → w.inputs ≡ c.inputs → HoldsGates before place w c.gates → WroteFirst place w o v after → HoldsOutputs before after v (with_outputs c 1)
-first_copied before place after c w o v l e same holds wrote =
-    let t : o ∷ [] ≡ take 1 c.outputs = taken c.outputs 0 o (some_outputs c l) e in
-    subst (HoldsOutputs before after v) (λ i. record { inputs = same i; gates = c.gates; outputs = t i }) (wrote.holds before c.gates holds)
+pub one_output : (before place after : List ℕ) (c : Content) (ahead rest : List Output) (w : Gates) (o : Output) (v : Outputs) → ahead ≡ c.outputs → ahead ≡ o ∷ rest → w.inputs ≡ c.inputs → HoldsGates before place w c.gates
+    → WroteFirst place w o v after → OutputsSoFar before c rest after v
+one_output before place after c ahead rest w o v a e same holds wrote =
+    let t = turn c.outputs 0 o rest (sym e ∙ a) in
+    let one : o ∷ [] ≡ take 1 c.outputs = taken c.outputs 0 o t.inside t.item in
+    let held : HoldsOutputs before after v (with_outputs c 1) = subst (HoldsOutputs before after v) (λ i. record { inputs = same i; gates = c.gates; outputs = one i }) (wrote.holds before c.gates holds) in
+    record {
+      holds = subst (λ n. HoldsOutputs before after v (with_outputs c n)) (sym wrote.outputs) held;
+      rest = t.others ∙ ap (λ n. drop n c.outputs) (sym wrote.outputs);
+    }
 
-pub full_at_first : (before place : List ℕ) (c : Content) (w : Gates) (o : Output) (e : Refusal) → Lawful c → Some o ≡ item c.outputs 0 → w.inputs ≡ c.inputs → HoldsGates before place w c.gates
+pub no_room_for_first : (before place : List ℕ) (c : Content) (ahead rest : List Output) (w : Gates) (o : Output) (e : Refusal) → Lawful c → ahead ≡ c.outputs → ahead ≡ o ∷ rest → w.inputs ≡ c.inputs → HoldsGates before place w c.gates
     → Some e ≡ first_output_refusal (length place) w o → (e ≡ Full) × (length place < length (encode c))
-full_at_first before place c w o e l i same holds r =
-    let h = some_outputs c l in
+no_room_for_first before place c ahead rest w o e l a n same holds r =
+    let t = turn c.outputs 0 o rest (sym n ∙ a) in
+    let h = t.inside in
+    let i : Some o ≡ item c.outputs 0 = t.item in
     let own : c.inputs + 2 + length c.gates ≡ w.inputs + 2 + w.gates = omega (arith, same, holds.many) in
     let none : output_flaw (w.inputs + 2 + w.gates) [] o ≡ None = no_output_flaw (w.inputs + 2 + w.gates) [] o (output_fits c 0 (w.inputs + 2 + w.gates) o l h i own) in
     let is : first_output_refusal (length place) w o ≡ unless (leb (outputs_start w.gates + length (output_bytes o)) (length place)) Full = simp none in
     let q = only_full (outputs_start w.gates + length (output_bytes o)) (length place) e (r ∙ is) in
     (q.0, omega (arith, q.1, holds.many, output_room c 0 o h i, encode_long (with_outputs c 0)))
 
-pub next_of : (c : Content) (k : ℕ) (o : Output) → Some o ≡ item (drop k c.outputs) 0 → Some o ≡ item c.outputs k
-next_of c k o e = e ∙ item_drop c.outputs k
+pub one_more_output : (before place after : List ℕ) (c : Content) (ahead rest : List Output) (w v : Outputs) (o : Output) → OutputsSoFar before c ahead place w → ahead ≡ o ∷ rest → WroteOutput place w o v after → OutputsSoFar before c rest after v
+one_more_output before place after c ahead rest w v o s e wrote =
+    let t = turn c.outputs w.outputs o rest (sym e ∙ s.rest) in
+    let holds : HoldsOutputs before after v (with_outputs c (w.outputs + 1)) =
+    subst (HoldsOutputs before after v) (λ i. record { inputs = c.inputs; gates = c.gates; outputs = taken c.outputs w.outputs o t.inside t.item i }) (wrote.holds before (with_outputs c w.outputs) s.holds) in
+    record {
+      holds = subst (λ n. HoldsOutputs before after v (with_outputs c n)) (sym wrote.outputs) holds;
+      rest = t.others ∙ ap (λ n. drop n c.outputs) (sym wrote.outputs);
+    }
 
-pub item_next : (c : Content) (k : ℕ) → k < length c.outputs → None ≡ item (drop k c.outputs) 0 → ⊥
-item_next c k h e = no_item c.outputs k h (e ∙ item_drop c.outputs k)
-
-pub output_copied : (before place after : List ℕ) (c : Content) (k : ℕ) (r s : OutputRecords) (w v : Outputs) (o : Output) → k < length c.outputs → Halfway before c k r place w
-    → (Some o ≡ item (drop k c.outputs) 0) × Ahead s (drop 1 (drop k c.outputs)) → WroteOutput place w o v after → Halfway before c (k + 1) s after v
-output_copied before place after c k r s w v o h half next wrote = record {
-  lawful = half.lawful;
-  ahead = ahead_step s c.outputs k next.1;
-  holds = subst (HoldsOutputs before after v) (λ i. record { inputs = c.inputs; gates = c.gates; outputs = taken c.outputs k o h (next_of c k o next.0) i }) (wrote.holds before (with_outputs c k) half.holds);
-}
-
-pub full_at_output : (before place : List ℕ) (c : Content) (k : ℕ) (r : OutputRecords) (w : Outputs) (o : Output) (e : Refusal) → k < length c.outputs → Halfway before c k r place w → Some o ≡ item (drop k c.outputs) 0
-    → Some e ≡ output_refusal (length place) w (names (take k c.outputs)) o → (e ≡ Full) × (length place < length (encode c))
-full_at_output before place c k r w o e h half first p =
-    let i = next_of c k o first in
-    let l = half.lawful in
-    let m : length (take k c.outputs) ≡ k = length-take-le k c.outputs (omega arith) in
-    let n : w.outputs ≡ k = sym half.holds.outputs ∙ m in
-    let small : w.outputs < 256 = omega (arith, n, few 1 256 (length c.outputs) l.few_outputs) in
+pub no_room_for_output : (before place : List ℕ) (c : Content) (ahead rest : List Output) (w : Outputs) (o : Output) (e : Refusal) → Lawful c → OutputsSoFar before c ahead place w → ahead ≡ o ∷ rest
+    → Some e ≡ output_refusal (length place) w (names (take w.outputs c.outputs)) o → (e ≡ Full) × (length place < length (encode c))
+no_room_for_output before place c ahead rest w o e l half a p =
+    let t = turn c.outputs w.outputs o rest (sym a ∙ half.rest) in
+    let k : ℕ = w.outputs in
+    let h : k < length c.outputs = t.inside in
+    let i : Some o ≡ item c.outputs k = t.item in
+    let small : w.outputs < 256 = omega (arith, few 1 256 (length c.outputs) l.few_outputs) in
     let own : c.inputs + 2 + length c.gates ≡ w.inputs + 2 + w.gates = omega (arith, half.holds.inputs, half.holds.gates) in
     let none : output_flaw (w.inputs + 2 + w.gates) (names (take k c.outputs)) o ≡ None = no_output_flaw (w.inputs + 2 + w.gates) (names (take k c.outputs)) o (output_fits c k (w.inputs + 2 + w.gates) o l h i own) in
     let is : output_refusal (length place) w (names (take k c.outputs)) o ≡ unless (leb (w.end + length (output_bytes o)) (length place)) Full = simp (lt-ltb w.outputs 256 small, none) in
     let q = only_full (w.end + length (output_bytes o)) (length place) e (p ∙ is) in
     (q.0, omega (arith, q.1, half.holds.end, output_room c k o h i))
 
-pub all_copied : (before place : List ℕ) (c : Content) (k n : ℕ) (r : OutputRecords) (w : Outputs) → k ≡ n → Halfway before c k r place w → HoldsOutputs before place w (with_outputs c n)
-all_copied before place c k n r w e half = subst (λ m. HoldsOutputs before place w (with_outputs c m)) e half.holds
-
 -- the whole sheet
-whole : (c : Content) (n : ℕ) → n ≡ length c.outputs → with_outputs c n ≡ c
-whole c n e = λ i. record { inputs = c.inputs; gates = c.gates; outputs = take_all n c.outputs (omega arith) i }
+pub all_outputs : (before place : List ℕ) (c : Content) (ahead : List Output) (w : Outputs) → OutputsSoFar before c ahead place w → ahead ≡ [] → HoldsOutputs before place w c
+all_outputs before place c ahead w s e =
+    let all = take_all w.outputs c.outputs (over c.outputs w.outputs (sym e ∙ s.rest)) in
+    subst (HoldsOutputs before place w) (λ i. record { inputs = c.inputs; gates = c.gates; outputs = all i }) s.holds
 
-pub copy_is : (before place bs : List ℕ) (s : Shape) (c : Content) (n : ℕ) (w : Outputs) (v : Closed) → BytesSay bs s c → n ≡ length c.outputs → HoldsOutputs before place w (with_outputs c n)
-    → ((b : List ℕ) (d : Content) → HoldsOutputs b place w d → HoldsSheet b place v d) → (take v.size place ≡ bs) × (place ≡ bs ++ drop v.size before)
-copy_is before place bs s c n w v says e holds closes =
-    let h : HoldsSheet before place v c = closes before c (subst (HoldsOutputs before place w) (whole c n e) holds) in
-    (h.is ∙ says.again, h.behind ∙ ap (λ l. l ++ drop v.size before) says.again)
-
--- a refusal that is handed on
-pub handed_on : (place bs after : List ℕ) (r : Result Closed Refusal) (e : Refusal) → r ≡ Err e → e ≡ Full → length place < length bs → Copied place bs r after
-handed_on place bs after r e p full short = subst (λ q. Copied place bs q after) (sym p) (full, short)
+pub copy_is : (before place : List ℕ) (s : Sheet) (w : Outputs) (v : Closed) → HoldsOutputs before place w (said s)
+    → ((b : List ℕ) (d : Content) → HoldsOutputs b place w d → HoldsSheet b place v d) → (take v.size place ≡ s.bytes.now) × (place ≡ s.bytes.now ++ drop v.size before)
+copy_is before place s w v holds closes =
+    let h = closes before (said s) holds in
+    (h.is ∙ s.again, h.behind ∙ ap (λ l. l ++ drop v.size before) s.again)

@@ -1,14 +1,24 @@
 -- The parts of a sheet without fault.
-use Rattle.std.proofs.Common.{◌≡◌, ℕ, zero, suc, ◌+◌, ◌-◌, ◌*◌, ◌<◌, ◌≤◌, List, [], ◌∷◌, ◌++◌, length, get_or, take, drop, Some, None, sym, refl, ap, ◌∙◌, subst, arith}
+use Rattle.std.proofs.Common.{◌≡◌, ℕ, zero, suc, ◌+◌, ◌-◌, ◌*◌, ◌<◌, ◌≤◌, List, [], ◌∷◌, ◌++◌, length, get_or, take, drop, Some, None, Option, slice_get, Bool, true, false, ◌&&◌, leb, sym, refl, ap, ◌∙◌, subst, append_assoc, append-nil, arith}
 use Rattle.std.specs.List.{flat_map}
 use Rattle.std.proofs.lemmas.List.{drop-drop, length-append, drop_at, take_at}
 use Rattle.sheet.specs.declared.gate.Gate.{Gate}
 use Rattle.sheet.specs.declared.shape.Shape.{Shape}
-use Rattle.sheet.specs.Format.{Content, encode, gate_bytes, number_bytes, output_bytes, Output}
+use Rattle.sheet.specs.Format.{Content, encode, decode, gate_bytes, number_bytes, output_bytes, Output}
+use Rattle.std.proofs.lemmas.Bool.{lt-leb, le-leb, leb-true, cond-true, cond-false}
 use Rattle.sheet.specs.Record.{Seven}
-use Rattle.sheet.specs.Sections.{BytesSay, Ahead, item}
-use Rattle.sheet.specs.Names.{Split, CutOff}
-use Rattle.sheet.specs.declared.records.OutputRecords.{OutputRecords}
+use Rattle.sheet.specs.Sections.{GivesNext, BytesSay, Says, said, Ahead, item, output_in}
+use Rattle.std.specs.Option.{option_map}
+use Rattle.std.proofs.lemmas.Iterator.{YieldsList}
+use Rattle.std.proofs.lemmas.Iterator.Consumers.{YieldsList-from_shown}
+use Rattle.sheet.specs.declared.output.OutputRecord.{OutputRecord}
+use Rattle.sheet.specs.Said.{content_in}
+use Rattle.sheet.specs.Ahead.{gate_at, gates_in, gates_ahead, whole_output, output_at, outputs_in, outputs_ahead}
+use Rattle.sheet.specs.declared.gate_records.GateRecords.{GateRecords}
+use Rattle.sheet.specs.declared.sheet.Sheet.{Sheet}
+use Rattle.sheet.proofs.Back.{decode_encode}
+use Rattle.sheet.specs.Names.{Split, CutOff, output_of}
+use Rattle.sheet.specs.declared.output_records.OutputRecords.{OutputRecords}
 use Rattle.sheet.proofs.Fields.{whole_number}
 
 -- the bytes from the gate `k` on
@@ -69,6 +79,58 @@ gate_there bs s c k h short a =
     let l : 7 ≤ length (gate_bytes (get_or c.gates k d) ++ g.rest) = omega arith in
     omega (arith, ap length g.is)
 
+-- the next gate of a walk, and what then lies ahead
+pub short_gates : (n : ℕ) (xs : List ℕ) → length xs < 7 → gates_in n xs ≡ []
+short_gates zero xs h = refl
+short_gates (suc n) xs h = cond-false _ _ _ (lt-leb 7 (length xs) h)
+
+pub first_gate : (n m : ℕ) (xs : List ℕ) (g : Gate) (ys : List ℕ) → n ≡ suc m → Seven xs g → ys ≡ drop 7 xs → gates_in n xs ≡ g ∷ gates_in m ys
+first_gate n m xs g ys e s r =
+    let same : gate_at xs ≡ g = λ i. record { kind = sym s.kind i; a = sym s.a i; b = sym s.b i; c = sym s.c i } in
+    ap (λ k. gates_in k xs) e ∙ cond-true _ _ _ (le-leb 7 (length xs) s.long) ∙ (λ i. same i ∷ gates_in m (sym r i))
+
+seven_bytes : (g : Gate) (zs : List ℕ) → Seven (gate_bytes g ++ zs) g
+seven_bytes g zs = record { long = omega arith; kind = refl; a = sym (whole_number g.a); b = sym (whole_number g.b); c = sym (whole_number g.c) }
+
+pub gates_back : (gs : List Gate) (ys : List ℕ) → gates_in (length gs) (flat_map gate_bytes gs ++ ys) ≡ gs
+gates_back [] ys = refl
+gates_back (g ∷ gs) ys = first_gate (length (g ∷ gs)) (length gs) (flat_map gate_bytes (g ∷ gs) ++ ys) g (flat_map gate_bytes gs ++ ys) refl (seven_bytes g (flat_map gate_bytes gs ++ ys)) refl ∙ ap (λ l. g ∷ l) (gates_back gs ys)
+
+-- the next output of a walk, and what then lies ahead
+cut_at : (b d : Bool) (xs : List ℕ) → leb 3 (length xs) ≡ b → leb (get_or xs 2 0) (length (drop 3 xs)) ≡ d → CutOff xs → (b && d) ≡ false
+cut_at false d xs e f cut = refl
+cut_at true false xs e f cut = refl
+cut_at true true xs e f cut = absurd (cut (leb-true _ _ e) (leb-true _ _ f))
+
+pub cut_outputs : (n : ℕ) (xs : List ℕ) → CutOff xs → outputs_in n xs ≡ []
+cut_outputs zero xs cut = refl
+cut_outputs (suc n) xs cut = cond-false _ _ _ (cut_at _ _ xs refl refl cut)
+
+pub first_output : (n m : ℕ) (xs : List ℕ) (o : Output) (ys : List ℕ) → n ≡ suc m → Split xs o ys → outputs_in n xs ≡ o ∷ outputs_in m ys
+first_output n m xs o ys e s =
+    let there : whole_output xs ≡ true = simp (le-leb 3 (length xs) s.long, le-leb (get_or xs 2 0) (length (drop 3 xs)) s.fits) in
+    let same : output_at xs ≡ o = λ i. record { signal = sym s.signal i; name = sym s.name i } in
+    ap (λ k. outputs_in k xs) e ∙ cond-true _ _ _ there ∙ (λ i. same i ∷ outputs_in m (sym s.rest i))
+
+split_bytes : (o : Output) (zs : List ℕ) → Split (output_bytes o ++ zs) o zs
+split_bytes o zs = record {
+  long = omega arith;
+  fits = omega (arith, length-append o.name zs);
+  signal = sym (whole_number o.signal);
+  name = sym (take_at o.name zs _ refl);
+  rest = sym (drop_at o.name zs _ refl);
+}
+
+pub outputs_back : (os : List Output) (ys : List ℕ) → outputs_in (length os) (flat_map output_bytes os ++ ys) ≡ os
+outputs_back [] ys = refl
+outputs_back (o ∷ os) ys =
+    ap (outputs_in (length (o ∷ os))) (append_assoc (output_bytes o) (flat_map output_bytes os) ys)
+    ∙ first_output (length (o ∷ os)) (length os) (output_bytes o ++ (flat_map output_bytes os ++ ys)) o (flat_map output_bytes os ++ ys) refl (split_bytes o (flat_map output_bytes os ++ ys))
+    ∙ ap (λ l. o ∷ l) (outputs_back os ys)
+
+pub ahead_is : (w : OutputRecords) (os : List Output) → Ahead w os → outputs_ahead w ≡ os
+ahead_is w os a = ap (λ n. outputs_in n w.rest.now) (sym a.count) ∙ ap (outputs_in (length os)) (a.is ∙ sym (append-nil _)) ∙ outputs_back os []
+
 -- the record at the front of the bytes of an output is that output
 split_is : (xs : List ℕ) (o p : Output) (ys zs : List ℕ) → xs ≡ output_bytes o ++ ys → Split xs p zs → (p ≡ o) × (zs ≡ ys)
 split_is xs o p ys zs e s =
@@ -78,26 +140,15 @@ split_is xs o p ys zs e s =
     let name : p.name ≡ o.name = s.name ∙ (λ i. take (size i) (tail i)) ∙ take_at o.name ys _ refl in
     ((λ i. record { signal = sig i; name = name i }), s.rest ∙ (λ i. drop (size i) (tail i)) ∙ drop_at o.name ys _ refl)
 
-not_cut : (xs : List ℕ) (o : Output) (ys : List ℕ) → xs ≡ output_bytes o ++ ys → CutOff xs → ⊥
-not_cut xs o ys e cut =
-    let size : get_or xs 2 0 ≡ length o.name = ap (λ l. get_or l 2 0) e in
-    let tail : length (drop 3 xs) ≡ length (o.name ++ ys) = ap (λ l. length (drop 3 l)) e in
-    let long : length xs ≡ length (output_bytes o ++ ys) = ap length e in
-    cut (omega arith) (omega (arith, length-append o.name ys))
+pub ahead_none : (w : OutputRecords) (os : List Output) → outputs_ahead w ≡ [] → Ahead w os → Ahead w (drop 1 os)
+ahead_none w [] e a = a
+ahead_none w (o ∷ os) e a = absurd (let z : o ∷ os ≡ [] = sym (ahead_is w (o ∷ os) a) ∙ e in cc)
 
-pub ahead_none : (w : OutputRecords) (os : List Output) → w.left ≡ 0 → Ahead w os → (None ≡ item os 0) × Ahead w (drop 1 os)
-ahead_none w [] z a = (refl, a)
-ahead_none w (o ∷ os) z a = absurd (omega (arith, a.count))
-
-pub ahead_cut : (w : OutputRecords) (os : List Output) → (w.left ≡ 0 → ⊥) → CutOff w.rest.now → Ahead w os → ⊥
-ahead_cut w [] z cut a = z (sym a.count)
-ahead_cut w (o ∷ os) z cut a = not_cut w.rest.now o (flat_map output_bytes os) a.is cut
-
-pub ahead_more : (w v : OutputRecords) (os : List Output) (p : Output) (ys : List ℕ) → (w.left ≡ 0 → ⊥) → Split w.rest.now p ys → v.rest.now ≡ ys → v.left ≡ w.left - 1 → Ahead w os → (Some p ≡ item os 0) × Ahead v (drop 1 os)
+pub ahead_more : (w v : OutputRecords) (os : List Output) (p : Output) (ys : List ℕ) → (w.left ≡ 0 → ⊥) → Split w.rest.now p ys → v.rest.now ≡ ys → v.left ≡ w.left - 1 → Ahead w os → Ahead v (drop 1 os)
 ahead_more w v [] p ys z s e l a = absurd (z (sym a.count))
 ahead_more w v (o ∷ os) p ys z s e l a =
     let q = split_is w.rest.now o p (flat_map output_bytes os) ys a.is s in
-    (ap Some q.0, record { is = e ∙ q.1; count = omega (arith, l, a.count) })
+    record { is = e ∙ q.1; count = omega (arith, l, a.count) }
 
 gates_long : (gs : List Gate) → length (flat_map gate_bytes gs) ≡ 7 * length gs
 gates_long [] = refl
@@ -116,5 +167,32 @@ all_ahead bs s c w r l a = record {
   count = sym (l ∙ ap (λ t. t.outputs) a.shape);
 }
 
-pub ahead_step : (w : OutputRecords) (os : List Output) (i : ℕ) → Ahead w (drop 1 (drop i os)) → Ahead w (drop (i + 1) os)
-ahead_step w os i a = subst (Ahead w) (drop-drop 1 i os) a
+-- an accepted sheet says what is said of it, and nothing else
+pub says_said : (s : Sheet) → Says s (said s)
+says_said s = record {
+  decodes = ap decode (sym s.again) ∙ decode_encode (said s) s.lawful;
+  shape = λ i. record { inputs = s.inputs i; gates = s.gates i; outputs = s.outputs i };
+  lawful = s.lawful;
+  again = s.again;
+}
+
+pub said_is : (s : Sheet) (c : Content) → Says s c → said s ≡ c
+said_is s c h = ap content_in h.decodes
+
+pub gates_of : (bs : List ℕ) (s : Shape) (c : Content) (w : GateRecords) → w.rest.now ≡ drop 5 bs → w.left ≡ s.gates → BytesSay bs s c → gates_ahead w ≡ c.gates
+gates_of bs s c w r l a =
+    let e : w.rest.now ≡ flat_map gate_bytes c.gates ++ (number_bytes (length c.outputs) ++ flat_map output_bytes c.outputs) = r ∙ ap (drop 5) (sym a.again) in
+    (λ i. gates_in ((l ∙ many_gates bs s c a) i) (e i)) ∙ gates_back c.gates _
+
+item_get : {X : Type 0} (xs : List X) (k : ℕ) → slice_get xs k ≡ item xs k
+item_get [] k = refl
+item_get (x ∷ xs) zero = refl
+item_get (x ∷ xs) (suc k) = item_get xs k
+
+pub output_nth : (r : Option OutputRecord) (os : List Output) (k : ℕ) → option_map output_of r ≡ slice_get os k → output_in r ≡ item os k
+output_nth None os k e = e ∙ item_get os k
+output_nth (Some o) os k e = e ∙ item_get os k
+
+-- a walk gives the outputs that lie ahead of it
+pub walk : (w : OutputRecords) (os : List Output) → outputs_ahead w ≡ os → YieldsList GivesNext output_of w os
+walk w os e = subst (YieldsList GivesNext output_of w) e (YieldsList-from_shown GivesNext output_of outputs_ahead (λ s t g. ap length g.0.0) (λ s x t g. g.0) w)

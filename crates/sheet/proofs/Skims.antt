@@ -1,14 +1,18 @@
 -- The names in the bytes are those that were read.
-use Rattle.std.proofs.Common.{◌≡◌, ℕ, zero, suc, ◌+◌, ◌-◌, ◌<◌, ◌≤◌, Bool, true, false, ◌||◌, ◌↔◌, IsTrue, leb, List, [], ◌∷◌, ◌++◌, length, get_or, take, drop, sym, refl, ap, ◌∙◌, subst, append_assoc, append-nil, arith}
+use Rattle.std.proofs.Common.{◌≡◌, ℕ, zero, suc, ◌<◌, ◌≤◌, Bool, true, false, ◌||◌, ◌↔◌, IsTrue, MatchBool, leb, List, [], ◌∷◌, ◌++◌, length, get_or, take, drop, sym, refl, ap, ◌∙◌, subst, append_assoc, append-nil, arith}
 use Rattle.std.proofs.lemmas.List.{map_push}
-use Rattle.std.proofs.lemmas.Bool.{leb-true, le-leb, and_parts}
+use Rattle.std.proofs.lemmas.Bool.{leb-true, le-leb, and_parts, cond-true}
 use Rattle.std.specs.Str.{bytes_eq}
-use Rattle.std.specs.List.{All}
+use Rattle.std.specs.List.{All, AllWithin, HoldsAt}
 use Rattle.sheet.specs.declared.fault.Flaw.TheVariants.{Name}
 use Rattle.sheet.specs.Reading.{got, byte, number, bytes, judged, records}
 use Rattle.sheet.specs.Format.{Output, output, next_output, names, operand, operand_fits, operand_flaw, name_fits, used, visible}
 use Rattle.gates.specs.Kinds.{between}
-use Rattle.sheet.specs.Names.{skim, Room, Split, CutOff}
+use Rattle.sheet.specs.Ahead.{whole_output, outputs_in, outputs_ahead}
+use Rattle.sheet.specs.declared.output_records.OutputRecords.{OutputRecords}
+use Rattle.sheet.specs.declared.reader.Reader.{Reader}
+use Rattle.sheet.specs.View.{left}
+use Rattle.sheet.proofs.Loops.{SoFar}
 use Rattle.sheet.proofs.Fields.{parts, judged_got, byte_got, passed, never, got_same}
 
 pub record Raw (xs name ys : List ℕ) : Type 0 where
@@ -43,71 +47,43 @@ raw signals earlier xs o ys e =
     let b = parts (judged (bytes a.value) (name_fits earlier) Name a.rest) _ o ys a.then in
     got_same (λ o ys. Raw xs o.name ys) (raw_joined signals earlier p.value a.value b.value xs p.rest a.rest b.rest p.first a.first b.first) b.then
 
-pub record Skimmed (n : ℕ) (done : List Output) (xs : List ℕ) (all : List Output) : Type 0 where
-  pub room : Room n xs
-  pub is : names all ≡ names done ++ skim n xs
+one_more : (n : ℕ) (done : List Output) (xs : List ℕ) (o : Output) (zs : List ℕ) (all : List Output) → Raw xs o.name zs → names all ≡ names (done ++ o ∷ []) ++ names (outputs_in n zs)
+    → names all ≡ names done ++ names (outputs_in (suc n) xs)
+one_more n done xs o zs all r s =
+    let there : whole_output xs ≡ true = simp (le-leb 3 (length xs) r.long, le-leb (get_or xs 2 0) (length (drop 3 xs)) r.fits) in
+    s ∙ ap (λ l. l ++ names (outputs_in n zs)) (map_push (λ o. o.name) done o) ∙ append_assoc (names done) (o.name ∷ []) (names (outputs_in n zs))
+    ∙ (λ i. names done ++ r.is i ∷ names (outputs_in n (r.rest i))) ∙ ap (λ l. names done ++ names l) (sym (cond-true _ _ _ there))
 
-one_more : (n : ℕ) (done : List Output) (xs : List ℕ) (o : Output) (zs : List ℕ) (all : List Output) → Raw xs o.name zs → Skimmed n (done ++ o ∷ []) zs all → Skimmed (suc n) done xs all
-one_more n done xs o zs all r s = record {
-  room = (r.long, r.fits, subst (Room n) r.rest s.room);
-  is = s.is ∙ ap (λ l. l ++ skim n zs) (map_push (λ o. o.name) done o) ∙ append_assoc (names done) (o.name ∷ []) (skim n zs)
-      ∙ (λ i. names done ++ r.is i ∷ skim n (r.rest i));
-}
-
-pub skimmed : (signals n : ℕ) (done : List Output) (xs : List ℕ) (all : List Output) (ys : List ℕ) → records (next_output signals) n done xs ≡ got all ys → Skimmed n done xs all
-skimmed signals zero done xs all ys e = let same : done ≡ all = cc in record { room = tt; is = ap names (sym same) ∙ sym (append-nil (names done)) }
-skimmed signals (suc n) done xs all ys e =
+-- the names of the records that were read are those that stand in the bytes
+pub named_so : (signals n : ℕ) (done : List Output) (xs : List ℕ) (all : List Output) (ys : List ℕ) → records (next_output signals) n done xs ≡ got all ys → names all ≡ names done ++ names (outputs_in n xs)
+named_so signals zero done xs all ys e = let same : done ≡ all = cc in ap names (sym same) ∙ sym (append-nil (names done))
+named_so signals (suc n) done xs all ys e =
     let p = parts (next_output signals done xs) _ all ys e in
-    one_more n done xs p.value p.rest all (raw signals (names done) xs p.value p.rest p.first) (skimmed signals n (done ++ p.value ∷ []) p.rest all ys p.then)
+    one_more n done xs p.value p.rest all (raw signals (names done) xs p.value p.rest p.first) (named_so signals n (done ++ p.value ∷ []) p.rest all ys p.then)
 
--- a search has passed `k` of `count` outputs, and has these bytes left
-pub record Looking (name outputs : List ℕ) (count k : ℕ) (rest : List ℕ) : Type 0 where
-  pub room : Room (count - k) rest
-  pub same : used name (skim (count - k) rest) ≡ used name (skim count outputs)
+or_right : (a b : Bool) → b ≡ true → (a || b) ≡ true
+or_right true b e = refl
+or_right false b e = e
 
-pub record Looked (name outputs : List ℕ) (count k : ℕ) (o : Output) (ys : List ℕ) : Type 0 where
-  pub found : bytes_eq o.name name ≡ true → used name (skim count outputs) ≡ true
-  pub other : bytes_eq o.name name ≡ false → Looking name outputs count (k + 1) ys
+pub earlier_names : (signals k : ℕ) (start at : Reader) (s : SoFar (next_output signals) start k at) (w : OutputRecords) → w.rest.now ≡ left start → w.left ≡ k → names (outputs_ahead w) ≡ names s.done
+earlier_names signals k start at s w r l = (λ i. names (outputs_in (l i) (r i))) ∙ sym (named_so signals k [] (left start) s.done (left at) s.reads)
 
-look_at : (name outputs : List ℕ) (count k : ℕ) (rest : List ℕ) (o : Output) (ys : List ℕ) (m : ℕ) → count - k ≡ suc m → count - (k + 1) ≡ m → Looking name outputs count k rest → Split rest o ys → Looked name outputs count k o ys
-look_at name outputs count k rest o ys m e e' l s =
-    let P : ℕ → Type 0 = λ n. Room n rest in
-    let Q : List ℕ → Type 0 = λ z. Room m z in
-    let R : ℕ → Type 0 = λ n. Room n ys in
-    let all : Room (suc m) rest = subst P e l.room in
-    let q : used name (skim (suc m) rest) ≡ used name (skim count outputs) = ap (λ n. used name (skim n rest)) (sym e) ∙ l.same in
-    let p : (bytes_eq o.name name || used name (skim m ys)) ≡ used name (skim count outputs) = (λ i. bytes_eq (s.name i) name || used name (skim m (s.rest i))) ∙ q in
-    record {
-      found = λ h. sym p ∙ ap (λ b. b || used name (skim m ys)) h;
-      other = λ h. record {
-        room = subst R (sym e') (subst Q (sym s.rest) all.2);
-        same = ap (λ n. used name (skim n ys)) e' ∙ sym (ap (λ b. b || used name (skim m ys)) h) ∙ p;
-      };
-    }
+used_none : (name : List ℕ) (os : List Output) → AllWithin (λ (o : Output). bytes_eq o.name name ≡ false) os 0 (length os) → used name (names os) ≡ false
+used_none name [] h = refl
+used_none name (o ∷ os) h =
+    let here : bytes_eq o.name name ≡ false = h 0 o (omega arith) (omega arith) in
+    let rest = used_none name os (λ k d l m. h (suc k) d (omega arith) (omega arith)) in
+    simp (here, rest)
 
-pub look : (name outputs : List ℕ) (count k : ℕ) (rest : List ℕ) (o : Output) (ys : List ℕ) → k < count → Looking name outputs count k rest → Split rest o ys → Looked name outputs count k o ys
-look name outputs count k rest o ys h l s = look_at name outputs count k rest o ys (count - (k + 1)) (omega arith) refl l s
+used_some : (name : List ℕ) (os : List Output) (k : ℕ) → k < length os → HoldsAt (λ (o : Output). bytes_eq o.name name ≡ true) os k → used name (names os) ≡ true
+used_some name [] k l h = absurd (omega arith)
+used_some name (o ∷ os) zero l h = ap (λ b. b || used name (names os)) (h o)
+used_some name (o ∷ os) (suc k) l h = or_right (bytes_eq o.name name) _ (used_some name os k (omega arith) h)
 
-pub look_none : (name outputs : List ℕ) (count : ℕ) → Room count outputs → Looking name outputs count 0 outputs
-look_none name outputs count r =
-    let e : count - 0 ≡ count = omega arith in
-    let P : ℕ → Type 0 = λ n. Room n outputs in
-    record { room = subst P (sym e) r; same = ap (λ n. used name (skim n outputs)) e }
-
-not_cut : (n m : ℕ) (rest : List ℕ) → n ≡ suc m → Room n rest → CutOff rest → ⊥
-not_cut n m rest e r cut = let P : ℕ → Type 0 = λ n. Room n rest in let all : Room (suc m) rest = subst P e r in cut all.0 all.1
-
-pub look_cut : (name outputs : List ℕ) (count k : ℕ) (rest : List ℕ) → k < count → Looking name outputs count k rest → CutOff rest → ⊥
-look_cut name outputs count k rest h l cut = not_cut (count - k) (count - (k + 1)) rest (omega arith) l.room cut
-
-pub look_all : (name outputs : List ℕ) (count k : ℕ) (rest : List ℕ) → count ≤ k → Looking name outputs count k rest → false ≡ used name (skim count outputs)
-look_all name outputs count k rest h l =
-    let e : count - k ≡ 0 = omega arith in
-    ap (λ n. used name (skim n rest)) (sym e) ∙ l.same
-
--- the search among the bytes of `rest`, which are those of `outputs`
-pub named_before : (name outputs rest : List ℕ) (count : ℕ) (r : Bool) → rest ≡ outputs → Room count outputs → (Room count rest → r ≡ used name (skim count rest)) → used name (skim count outputs) ≡ r
-named_before name outputs rest count r e room f = ap (λ l. used name (skim count l)) (sym e) ∙ sym (f (subst (Room count) (sym e) room))
+pub used_as : (name : List ℕ) (os : List Output) (r : Bool)
+    → MatchBool r ((k : ℕ) × (k < length os) × HoldsAt (λ (o : Output). bytes_eq o.name name ≡ true) os k) (AllWithin (λ (o : Output). bytes_eq o.name name ≡ false) os 0 (length os)) → r ≡ used name (names os)
+used_as name os true h = sym (used_some name os h.0 h.1 h.2)
+used_as name os false h = sym (used_none name os h)
 
 -- a byte that can be seen
 abbrev pub seen : ℕ → Type 0

@@ -2,7 +2,9 @@
 use Rattle.std.proofs.Common.{◌≡◌, ℕ, ◌+◌, ◌-◌, ◌*◌, ◌<◌, ◌≤◌, Bool, true, false, ltb, List, [], ◌∷◌, ◌++◌, length, take, drop, None, Ok, Err, Option, Result, sym, refl, ap, ◌∙◌, subst, append_assoc, append-nil, arith}
 use Rattle.sheet.specs.declared.fault.Flaw.{Flaw}
 use Rattle.sheet.specs.declared.fault.Flaw.TheVariants.{Name, Signal}
-use Rattle.sheet.specs.Names.{Room, skim}
+use Rattle.sheet.specs.declared.output_records.OutputRecords.{OutputRecords}
+use Rattle.sheet.specs.Ahead.{outputs_in, outputs_ahead}
+use Rattle.sheet.proofs.Parts.{outputs_back}
 use borrow.Rule.Slice.PartMut.{put_mid}
 use Rattle.std.specs.List.{flat_map}
 use Rattle.std.proofs.lemmas.List.{drop-drop, length-append, length_push, take_at, drop_at, flat_map_more, length-take-le}
@@ -149,21 +151,9 @@ flaw_parts false b d e = absurd (let z : ◌≡◌ {A = ℕ} 0 1 = cc in omega a
 pub no_flaw : (signals : ℕ) (earlier : List (List ℕ)) (o : Output) → output_flaw signals earlier o ≡ None → OutputFits signals earlier o
 no_flaw signals earlier o e = let p = flaw_parts (ltb o.signal signals) (between 1 16 (length o.name)) (name_fits earlier o.name) e in record { signal = p.0; long = p.1; name = p.2 }
 
-joined_room : (os : List Output) (ys : List ℕ) → Room (length os) (flat_map output_bytes os ++ ys) × (skim (length os) (flat_map output_bytes os ++ ys) ≡ names os)
-joined_room [] ys = (tt, refl)
-joined_room (o ∷ os) ys =
-    let r = joined_room os ys in
-    let e : (o.name ++ flat_map output_bytes os) ++ ys ≡ o.name ++ (flat_map output_bytes os ++ ys) = append_assoc o.name (flat_map output_bytes os) ys in
-    let t : take (length o.name) ((o.name ++ flat_map output_bytes os) ++ ys) ≡ o.name = ap (take (length o.name)) e ∙ take_at o.name (flat_map output_bytes os ++ ys) _ refl in
-    let d : drop (length o.name) ((o.name ++ flat_map output_bytes os) ++ ys) ≡ flat_map output_bytes os ++ ys = ap (drop (length o.name)) e ∙ drop_at o.name (flat_map output_bytes os ++ ys) _ refl in (
-      (omega arith, omega (arith, ap length e, length-append o.name (flat_map output_bytes os ++ ys)), subst (Room (length os)) (sym d) r.0),
-      (λ i. t i ∷ skim (length os) (d i)) ∙ ap (λ l. o.name ∷ l) r.1,
-    )
-
 pub record Held (place : List ℕ) (w : Outputs) (c : Content) : Type 0 where
   pub ends : w.end ≤ length place
-  pub room : Room w.outputs (drop (5 + 7 * w.gates + 2) place)
-  pub skims : skim w.outputs (drop (5 + 7 * w.gates + 2) place) ≡ names c.outputs
+  pub earlier : outputs_in w.outputs (drop (5 + 7 * w.gates + 2) place) ≡ c.outputs
   pub whole : take w.end place ≡ encode c
 
 pub held : (before place : List ℕ) (w : Outputs) (c : Content) → HoldsOutputs before place w c → Held place w c
@@ -173,12 +163,10 @@ held before place w c h =
     let X : List ℕ = flat_map output_bytes c.outputs ++ rest in
     let s : place ≡ front c.inputs c.gates ++ (number_bytes (length c.outputs) ++ X) = h.is ∙ encode_from c rest in
     let d : drop (5 + 7 * w.gates + 2) place ≡ X = sym (drop-drop 2 (5 + 7 * w.gates) place) ∙ ap (drop 2) (ap (drop (5 + 7 * w.gates)) s ∙ drop_at (front c.inputs c.gates) (number_bytes (length c.outputs) ++ X) (5 + 7 * w.gates) n) in
-    let j = joined_room c.outputs rest in
     let l : length place ≡ length (encode c) + length rest = ap length h.is ∙ length-append (encode c) rest in
     record {
       ends = omega (arith, l, h.end);
-      room = subst (Room w.outputs) (sym d) (subst (λ k. Room k X) h.outputs j.0);
-      skims = ap (skim w.outputs) d ∙ ap (λ k. skim k X) (sym h.outputs) ∙ j.1;
+      earlier = (λ i. outputs_in (sym h.outputs i) (d i)) ∙ outputs_back c.outputs rest;
       whole = ap (take w.end) h.is ∙ take_at (encode c) rest w.end h.end;
     }
 
@@ -219,11 +207,12 @@ add_output place after w v o si sg so se e few before c fits h =
     }
 
 -- the flaw that was found among the bytes is the one among the names
-pub flaw_as : (before place earlier : List ℕ) (w : Outputs) (c : Content) (signals : ℕ) (o : Output) (q : Option Flaw) → earlier ≡ drop (outputs_start w.gates) place
-    → (Room w.outputs earlier → q ≡ output_flaw signals (skim w.outputs earlier) o) → HoldsOutputs before place w c → output_flaw signals (names c.outputs) o ≡ q
-flaw_as before place earlier w c signals o q s e h =
+pub flaw_as : (before place : List ℕ) (earlier : OutputRecords) (w : Outputs) (c : Content) (signals : ℕ) (o : Output) (q : Option Flaw) → earlier.rest.now ≡ drop (outputs_start w.gates) place → earlier.left ≡ w.outputs
+    → q ≡ output_flaw signals (names (outputs_ahead earlier)) o → HoldsOutputs before place w c → output_flaw signals (names c.outputs) o ≡ q
+flaw_as before place earlier w c signals o q r l e h =
     let k = held before place w c h in
-    sym (e (subst (Room w.outputs) (sym s) k.room) ∙ ap (λ l. output_flaw signals l o) (ap (skim w.outputs) s ∙ k.skims))
+    let same : outputs_ahead earlier ≡ c.outputs = (λ i. outputs_in (l i) (r i)) ∙ k.earlier in
+    sym (e ∙ ap (λ os. output_flaw signals (names os) o) same)
 
 pub closed : (before place : List ℕ) (w : Outputs) (v : Closed) (c : Content) → v.size ≡ w.end → HoldsOutputs before place w c → HoldsSheet before place v c
 closed before place w v c b h =

@@ -1,14 +1,11 @@
 -- Writing what an accepted sheet says.
-use Rattle.std.specs.Prelude.{◌≡◌, ℕ, ◌<◌, List, [], ◌++◌, length, take, drop, Ok, Err, Result}
-use Rattle.sheet.specs.declared.records.OutputRecords.{OutputRecords}
+use Rattle.std.specs.Prelude.{◌≡◌, ℕ, ◌<◌, List, ◌++◌, length, take, drop, Ok, Err, Result}
 use Rattle.sheet.specs.declared.refusal.Refusal.{Refusal}
 use Rattle.sheet.specs.declared.refusal.Refusal.TheVariants.{Full}
 use Rattle.sheet.specs.declared.writer.Closed.{Closed}
 use Rattle.sheet.specs.declared.writer.Gates.{Gates}
 use Rattle.sheet.specs.declared.writer.Outputs.{Outputs}
 use Rattle.sheet.specs.Format.{Content, encode}
-use Rattle.sheet.specs.Laws.{Lawful}
-use Rattle.sheet.specs.Sections.{Ahead}
 use Rattle.sheet.specs.Written.{HoldsGates, HoldsOutputs}
 
 -- the copy is the sheet, byte for byte, with the place behind it as it was; or the place is too short for it
@@ -16,27 +13,12 @@ abbrev pub Copied : List ℕ → List ℕ → Result Closed Refusal → List ℕ
 Copied place bs (Ok v) after = (take v.size after ≡ bs) × (after ≡ bs ++ drop v.size place)
 Copied place bs (Err e) after = (e ≡ Full) × (length place < length bs)
 
--- what was given, with its first `k` outputs
-abbrev pub with_outputs : Content → ℕ → Content
-with_outputs c k = record { inputs = c.inputs; gates = c.gates; outputs = take k c.outputs }
-
--- the inputs are written, or there is no room for the sheet
-abbrev pub Started : List ℕ → Content → Result Gates Refusal → List ℕ → Type 0
-Started place c (Ok v) after = (v.inputs ≡ c.inputs) × HoldsGates place after v []
-Started place c (Err e) after = (e ≡ Full) × (length place < length (encode c))
-
 -- the gates are written, or there is no room for the sheet
 abbrev pub CopiedGates : List ℕ → Content → ℕ → Result Gates Refusal → List ℕ → Type 0
 CopiedGates before c room (Ok v) after = (v.inputs ≡ c.inputs) × HoldsGates before after v c.gates
 CopiedGates before c room (Err e) after = (e ≡ Full) × (room < length (encode c))
 
--- the first `k` outputs are written, or there is no room for the sheet
-abbrev pub CopiedOutputs : List ℕ → Content → ℕ → ℕ → Result Outputs Refusal → List ℕ → Type 0
-CopiedOutputs before c k room (Ok v) after = HoldsOutputs before after v (with_outputs c k)
-CopiedOutputs before c k room (Err e) after = (e ≡ Full) × (room < length (encode c))
-
--- `k` outputs are written, and the others lie ahead
-pub record Halfway (before : List ℕ) (c : Content) (k : ℕ) (records : OutputRecords) (place : List ℕ) (w : Outputs) : Type 0 where
-  pub lawful : Lawful c
-  pub ahead : Ahead records (drop k c.outputs)
-  pub holds : HoldsOutputs before place w (with_outputs c k)
+-- the outputs are written, or there is no room for the sheet
+abbrev pub CopiedOutputs : List ℕ → Content → ℕ → Result Outputs Refusal → List ℕ → Type 0
+CopiedOutputs before c room (Ok v) after = HoldsOutputs before after v c
+CopiedOutputs before c room (Err e) after = (e ≡ Full) × (room < length (encode c))

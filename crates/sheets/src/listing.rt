@@ -21,16 +21,11 @@ pub fn list(rt: &HostRuntime, bytes: &[u8]) -> anyhow::Result<()> {
     match Sheet::read(bytes) {
         Ok(sheet) => {
             println!(rt; "inputs {}", sheet.inputs())?;
-            for k in 0..sheet.gates() {
-                if let Some(record) = sheet.gate(k) {
-                    gate(rt, k, record)?;
-                }
+            for (k, record) in (0..u16::MAX).zip(sheet.gate_records()) {
+                gate(rt, k, record)?;
             }
-            let mut records = sheet.output_records();
-            for _ in 0..sheet.outputs() {
-                if let Some(record) = records.next_output() {
-                    output(rt, record)?;
-                }
+            for record in sheet.output_records() {
+                output(rt, record)?;
             }
         }
         Err(fault) => println!(rt; "fault {fault}")?,
@@ -43,9 +38,7 @@ pub fn summary(rt: &HostRuntime, bytes: &[u8]) -> anyhow::Result<()> {
     match Sheet::read(bytes) {
         Ok(sheet) => println!(rt;
             "accepted: inputs {} gates {} outputs {}",
-            sheet.inputs(),
-            sheet.gates(),
-            sheet.outputs()
+            sheet.inputs(), sheet.gates(), sheet.outputs()
         )?,
         Err(fault) => println!(rt; "fault {fault}")?,
     }

@@ -1,13 +1,15 @@
 //! The section of outputs, read field by field, each name against the earlier ones.
-ghost use Rattle.std.specs.Prelude.{◌≡◌, ◌≤◌};
+ghost use Rattle.std.specs.Prelude.{◌≡◌};
+ghost use Rattle.sheet.specs.Ahead.{outputs_ahead};
 ghost use Rattle.sheet.specs.Reading.{bytes as some_bytes, judged};
-ghost use Rattle.sheet.specs.Format.{visible as all_visible, used, name_fits, output as an_output, output_section};
-ghost use Rattle.sheet.specs.Names.{skim, Room, output_of};
-ghost use Rattle.sheet.specs.View.{left, Step, StepBy, PartStep, counted};
+ghost use Rattle.sheet.specs.Format.{visible as all_visible, used, names, name_fits, output as an_output, output_section};
+ghost use Rattle.sheet.specs.Names.{output_of};
+ghost use Rattle.sheet.specs.View.{Step, StepBy, PartStep, counted};
 ghost use Rattle.sheet.specs.declared.fault.Flaw.TheVariants.{Name as name_flaw};
 
 use crate::fault::{FieldFault, Flaw};
-use crate::output::{OutputRecord, bytes_from, output_record};
+use crate::output::{OutputRecord, bytes_from};
+use crate::output_records::OutputRecords;
 use crate::reader::Reader;
 
 /// Whether every byte of a name is visible.
@@ -17,32 +19,21 @@ pub fn visible(name: &[u8]) -> bool
     name.iter().all(|byte| byte.is_ascii_graphic())
 }
 
-/// Whether one of the first `count` outputs in some bytes has this name.
-pub fn has_name(outputs: &[u8], count: u16, name: &[u8]) -> bool
-    ensures { Room count outputs.now → result ≡ used name.now (skim count outputs.now) }
+/// Whether one of some outputs has this name.
+pub fn has_name(mut outputs: OutputRecords, name: &[u8]) -> bool
+    ensures { result ≡ used name.now (names (outputs_ahead outputs.entry)) }
 {
-    let mut rest = outputs;
-    for k in 0..count {
-        let Some((other, after)) = output_record(rest) else {
-            return false;
-        };
-        if other.name == name {
-            return true;
-        }
-        rest = after;
-    }
-    false
+    outputs.any(|other| other.name == name)
 }
 
 impl<'a> Reader<'a> {
-    /// A name of so many bytes, which none of the `count` outputs from `first` on has.
-    fn name(&mut self, size: u8, first: &Reader<'a>, count: u16) -> Result<&'a [u8], FieldFault>
-        requires { Room count (left first.now) }
-        ensures { PartStep (judged (some_bytes size) (name_fits (skim count (left first.now))) name_flaw) self.old result self.new }
+    /// A name of so many bytes, which no earlier output has.
+    fn name(&mut self, size: u8, earlier: OutputRecords<'a>) -> Result<&'a [u8], FieldFault>
+        ensures { PartStep (judged (some_bytes size) (name_fits (names (outputs_ahead earlier.entry))) name_flaw) self.old result self.new }
     {
         let place = self.place;
         let name = self.part(size as usize)?;
-        if visible(name) && !has_name(bytes_from(first.sheet, first.place), count, name) {
+        if visible(name) && !has_name(earlier, name) {
             Ok(name)
         } else {
             Err(FieldFault {
@@ -52,19 +43,17 @@ impl<'a> Reader<'a> {
         }
     }
 
-    /// An output record, after the `count` outputs from `first` on.
+    /// An output record, after the earlier ones.
     fn output(
         &mut self,
         signals: u16,
-        first: &Reader<'a>,
-        count: u16,
+        earlier: OutputRecords<'a>,
     ) -> Result<OutputRecord<'a>, FieldFault>
-        requires { Room count (left first.now) }
-        ensures { StepBy output_of (an_output signals (skim count (left first.now))) self.old result self.new }
+        ensures { StepBy output_of (an_output signals (names (outputs_ahead earlier.entry))) self.old result self.new }
     {
         let signal = self.operand(true, signals)?;
         let size = self.byte_within(1, 16, Flaw::Name)?;
-        let name = self.name(size, first, count)?;
+        let name = self.name(size, earlier)?;
         Ok(OutputRecord { signal, name })
     }
 
@@ -73,9 +62,9 @@ impl<'a> Reader<'a> {
         ensures { Step (λ xs. counted (output_section signals xs)) self.old result self.new }
     {
         let count = self.number_within(1, 256, Flaw::Count)?;
-        let first = *self;
+        let records = bytes_from(self.sheet, self.place);
         for k in 0..count {
-            let _ = self.output(signals, &first, k)?;
+            let _ = self.output(signals, OutputRecords::new(records, k))?;
         }
         Ok(count)
     }

@@ -7,6 +7,7 @@ ghost use Rattle.sheet.specs.Refusals.{refused, first_output_refusal, output_ref
 
 use crate::fault::Flaw;
 use crate::output::bytes_from;
+use crate::output_records::OutputRecords;
 use crate::refusal::{Refusal, Refused};
 use crate::writer::names::check_output;
 use crate::writer::{Gates, Outputs, put};
@@ -17,7 +18,8 @@ impl Gates {
         ensures goes { IfOk result (RoomForFirst self.now (named signal name.now) room) }
         ensures refusal { found result ≡ first_output_refusal room self.now (named signal name.now) }
     {
-        check_output(signal, name, self.inputs + 2 + self.gates, &[], 0)?;
+        let earlier = OutputRecords::new(&[], 0);
+        check_output(signal, name, self.inputs + 2 + self.gates, earlier)?;
         let end = 5 + 7 * self.gates as usize + 5 + name.len();
         if room < end {
             return Err(Refusal::Full);
@@ -67,14 +69,9 @@ impl Outputs {
         if self.outputs == 256 {
             return Err(Refusal::Wrong(Flaw::Count));
         }
-        let earlier = bytes_from(place, 5 + 7 * self.gates as usize + 2);
-        check_output(
-            signal,
-            name,
-            self.inputs + 2 + self.gates,
-            earlier,
-            self.outputs,
-        )?;
+        let records = bytes_from(place, 5 + 7 * self.gates as usize + 2);
+        let earlier = OutputRecords::new(records, self.outputs);
+        check_output(signal, name, self.inputs + 2 + self.gates, earlier)?;
         let end = self.end + 3 + name.len();
         if place.len() < end {
             return Err(Refusal::Full);

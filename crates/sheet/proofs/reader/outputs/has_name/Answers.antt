@@ -1,24 +1,13 @@
 -- What is left to show of `reader::outputs::has_name`, beyond what the search finds.
-use Rattle.std.proofs.Common.{sym, ◌∙◌}
-use Rattle.sheet.specs.Names.{output_of}
-use Rattle.sheet.proofs.Skims.{look, look_none, look_cut, look_all}
+use Rattle.std.proofs.Common.{◌≡◌, true, false, rules, refl, tests}
+use Rattle.std.proofs.lemmas.Iterator.{cases_from_any}
+use Rattle.std.specs.Str.{bytes_eq}
+use Rattle.sheet.specs.Ahead.{outputs_ahead}
+use Rattle.sheet.specs.Format.{Output}
+use Rattle.sheet.proofs.Parts.{walk}
+use Rattle.sheet.proofs.Skims.{used_as}
 use Rattle.sheet.proofs.reader.outputs.has_name.Goals as goal
 
-pub loop-k-init : goal.loop-k-init
-loop-k-init c = λ r. look_none c.args.name.now c.args.outputs.now c.args.count r
-
-pub loop-k-preserved : goal.loop-k-preserved
-loop-k-preserved c = λ r.
-    (look c.args.name.now c.args.outputs.now c.args.count c.loop-k.k c.loop-k.rest.now (output_of c.in-Some.other) c.in-Some.after.now c.loop-k-test.true (c.loop-k.invariant r) c.in-Some.ensures
-    ).other (sym c.eq.ensures ∙ c.if-eq.false)
-
-pub returns-in_default : goal.returns-in_default
-returns-in_default c = λ r. absurd (look_cut c.args.name.now c.args.outputs.now c.args.count c.loop-k.k c.loop-k.rest.now c.loop-k-test.true (c.loop-k.invariant r) c.in_default.ensures)
-
-pub returns-then-eq : goal.returns-then-eq
-returns-then-eq c = λ r.
-    sym ((look c.args.name.now c.args.outputs.now c.args.count c.loop-k.k c.loop-k.rest.now (output_of c.in-Some.other) c.in-Some.after.now c.loop-k-test.true (c.loop-k.invariant r) c.in-Some.ensures
-    ).found (sym c.eq.ensures ∙ c.if-eq.true))
-
 pub returns : goal.returns
-returns c = λ r. look_all c.args.name.now c.args.outputs.now c.args.count c.loop-k.k c.loop-k.rest.now c.loop-k-test.false (c.loop-k.invariant r)
+returns c = used_as c.args.name.now (outputs_ahead c.args.outputs) c.any.result
+    (cases_from_any c.any.new.self _ c.any.result (λ (o : Output). bytes_eq o.name c.args.name.now ≡ true) (λ (o : Output). bytes_eq o.name c.args.name.now ≡ false) c.any.ensures.ran (walk c.args.outputs (outputs_ahead c.args.outputs) refl) (λ x q k. search (rules, tests)) (λ x q k. search (rules, tests)))

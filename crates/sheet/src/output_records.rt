@@ -1,7 +1,8 @@
 //! The outputs of an accepted sheet in order, one at a time.
-ghost use Rattle.std.specs.Prelude.{◌≡◌, List, drop};
-ghost use Rattle.sheet.specs.Format.{Output as AnOutput};
-ghost use Rattle.sheet.specs.Sections.{Ahead, item, output_in};
+ghost use Rattle.std.specs.Prelude.{◌≡◌};
+ghost use Rattle.std.specs.Iterator.{item_count};
+ghost use Rattle.sheet.specs.Ahead.{outputs_ahead};
+ghost use Rattle.sheet.specs.Sections.{GivesNext};
 
 use crate::output::{OutputRecord, output_record};
 
@@ -19,17 +20,20 @@ impl<'a> OutputRecords<'a> {
     {
         OutputRecords { rest, left }
     }
+}
 
-    /// The next output, and a step past it.
-    pub fn next_output(&mut self) -> Option<OutputRecord<'a>>
-        ensures { (os : List AnOutput) → Ahead self.old os → (output_in result ≡ item os 0) × Ahead self.new (drop 1 os) }
-    {
+impl<'a> Iterator for OutputRecords<'a> {
+    type Item = OutputRecord<'a>;
+
+    ghost next_gives = { GivesNext };
+
+    ghost remaining = { item_count outputs_ahead };
+
+    fn next(&mut self) -> Option<OutputRecord<'a>> {
         if self.left == 0 {
             return None;
         }
-        let Some((output, rest)) = output_record(self.rest) else {
-            return None;
-        };
+        let (output, rest) = output_record(self.rest)?;
         self.rest = rest;
         self.left -= 1;
         Some(output)
