@@ -38,7 +38,9 @@ pub fn summary(rt: &HostRuntime, bytes: &[u8]) -> anyhow::Result<()> {
     match Sheet::read(bytes) {
         Ok(sheet) => println!(rt;
             "accepted: inputs {} gates {} outputs {}",
-            sheet.inputs(), sheet.gates(), sheet.outputs()
+            sheet.inputs(),
+            sheet.gates(),
+            sheet.outputs()
         )?,
         Err(fault) => println!(rt; "fault {fault}")?,
     }
