@@ -7,8 +7,8 @@ pub returns-in-Undecided : goal.returns-in-Undecided
 returns-in-Undecided g c =
     let x = c.in-Undecided.ensures in
     let y = c.ask-in-Undecided.ensures in
-    let same = asked_same _ _ _ _ _ c.requires x.asked.merged x.asked.sizes in
+    let second = g.Q.Engine.gives c.args.second.now in
     record {
-      asked = chain_asked _ _ _ _ _ _ _ _ _ _ c.requires x.asked y.asked;
-      given = inr (x.given, subst (λ (q : Question). g.Q.Engine.gives c.args.second.now q c.ask-in-Undecided.result) same y.given);
+      asked = chain_asked c.requires x.asked y.asked;
+      given = inr (x.given, subst (λ (q : Question). second q c.ask-in-Undecided.result) (asked_same c.requires x.asked) y.given);
     }

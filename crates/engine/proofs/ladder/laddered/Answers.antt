@@ -11,12 +11,11 @@ returns-in-Undecided g c =
     let low = c.lowered.ensures in
     let x = c.in-Undecided.ensures in
     let y = c.ask-in-Undecided.ensures in
-    let gives = g.P.Engine.gives c.args.below.now in
-    let same = asked_same _ _ _ _ _ c.requires x.asked.merged x.asked.sizes in
+    let below = g.P.Engine.gives c.args.below.now in
     record {
-      asked = ladder_asked _ _ _ _ _ _ _ _ _ _ low c.requires x.asked y.asked;
+      asked = ladder_asked low c.requires x.asked y.asked;
       given = inr (
-        subst (λ (l : Query). gives (asked_of c.args.graph.now l c.args.workspace.now) Undecided) low x.given,
-        subst (λ (q : Question). gives q c.ask-in-Undecided.result) same y.given,
+        subst (λ (l : Query). below (asked_of c.args.graph.now l c.args.workspace.now) Undecided) low x.given,
+        subst (λ (q : Question). below q c.ask-in-Undecided.result) (asked_same c.requires x.asked) y.given,
       );
     }
