@@ -1,7 +1,8 @@
 -- The law of the earliest code: the definition meets it, and what it says of an answer settles the answer.
 use Rattle.std.proofs.Common.{◌≡◌, ℕ, zero, suc, ◌<◌, Bool, true, false, List, [], ◌∷◌, length, get_or, Some, None, Option, sym, refl, ap, ◌∙◌, subst, inl, inr, arith}
 use Rattle.std.proofs.lemmas.Bool.{cases_Bool, cond-true, cond-false, both_ways}
-use Rattle.simulation.specs.Earliest.{differ, later, earliest, Tells}
+use Rattle.gates.specs.Kinds.{differ}
+use Rattle.simulation.specs.Earliest.{later, earliest, Tells}
 
 differ_same : (x : Bool) → differ x x ≡ false
 differ_same true = refl

@@ -1,9 +1,6 @@
 -- The earliest code of a list that separates two functions, by its index.
-use Rattle.std.specs.Prelude.{◌≡◌, ℕ, suc, ◌<◌, Bool, true, false, cond, not, List, [], ◌∷◌, length, Some, None, Option, slice_index}
-
-abbrev pub differ : Bool → Bool → Bool
-differ true b = not b
-differ false b = b
+use Rattle.std.specs.Prelude.{◌≡◌, ℕ, suc, ◌<◌, Bool, cond, List, [], ◌∷◌, length, Some, None, Option, slice_index}
+use Rattle.gates.specs.Kinds.{differ}
 
 -- an index in a list, seen from the list with one more code in front
 abbrev pub later : Option ℕ → Option ℕ
