@@ -7,8 +7,8 @@ use Rattle.aig.proofs.Graphs.{whole_of}
 use Rattle.simulation.specs.Lanes.{lane, Simulated}
 use Rattle.simulation.specs.Earliest.{Tells}
 use Rattle.simulation.proofs.Filling.{net_lane}
-use Rattle.simulation.proofs.Firsts.{tells_is}
-use Rattle.simulation.proofs.Separating.{first_tells}
+use Rattle.simulation.proofs.Firsts.{earliest_tells}
+use Rattle.simulation.proofs.Separating.{found_is}
 use Rattle.simulation.proofs.separation.earliest.Goals as goal
 
 -- the word of a net holds its values
@@ -30,13 +30,12 @@ returns c =
     let h = value (inputs_of g) (vertices g) c.args.b.0 in
     let sx : c.net_word.result < 2 ^ 64 = omega arith in
     let sy : c.net_word-2.result < 2 ^ 64 = omega arith in
-    let tells = first_tells codes few f h c.net_word.result c.net_word-2.result sx sy
+    let found = c.then_some.ensures ∙ found_is codes few f h c.net_word.result c.net_word-2.result sx sy
     (holds g codes words few sim c.args.a.0 c.net_word.result c.requires.first c.net_word.ensures)
     (holds g codes words few sim c.args.b.0 c.net_word-2.result c.requires.second c.net_word-2.ensures) in
-    let told : Tells codes f h c.then_some.result = subst (Tells codes f h) (sym c.then_some.ensures) tells in
     record {
-      found = tells_is f h codes c.then_some.result told;
-      law = told;
+      found = found;
+      law = subst (Tells codes f h) (sym found) (earliest_tells f h codes);
       simulated = sim;
       rest = c.simulate.ensures.rest;
     }
