@@ -16,9 +16,3 @@ loop-v-preserved c =
           (c.vertex_word.ensures k hk) (λ y hy. c.loop-v.invariant.0 k y hk hy) x,
       λ x h. get_or-set_other words v x w 0 (λ p. omega arith) ∙ c.loop-v.invariant.1 x (omega arith),
     )
-
-pub returns : goal.returns
-returns c = record {
-  simulated = λ k v hk h. c.loop-v.invariant.0 k v hk (omega arith);
-  rest = λ v h. c.loop-v.invariant.1 v (omega arith);
-}
