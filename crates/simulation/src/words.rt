@@ -9,6 +9,7 @@ use crate::codes::Codes;
 use aig::{Graph, Net};
 
 /// The word of a net, where `words` has those of the vertices.
+#[tactic(auto, using(crate::proofs::Filling::inverse_word))]
 pub fn net_word(words: &[u64], net: Net) -> u64
     requires { net.0 / 2 < length words.now }
     ensures { (k : ℕ) → k < 64 → bit result k ≡ net_value (lane words.now k) net.0 }
