@@ -1,4 +1,3 @@
 pub mod Merges
 pub mod Reaches
 pub mod Turns
-pub mod Towers

@@ -1,5 +1,5 @@
 -- Reach and piles: which questions an engine never leaves undecided, and what the engines in a pile are.
-use Rattle.std.specs.Prelude.{◌≡◌, ℕ, ◌/◌, max, Bool, false, ◌||◌, List, [], ◌∷◌, ◌++◌}
+use Rattle.std.specs.Prelude.{◌≡◌, ℕ, ◌/◌, max, Bool, false, ◌||◌, List, [], ◌∷◌, ◌++◌, All}
 use Rattle.engine.specs.Questions.{Question, at_limit}
 
 -- a reach: a yes or no to each question
@@ -38,8 +38,7 @@ engines (ladder below) limit = asking (reach_of (ladder below)) limit ∷ (engin
 
 -- the question, at each one's own limit, is outside each reach of the list
 abbrev pub OutsideEach : List Asking → Question → Type 0
-OutsideEach [] q = Unit {0}
-OutsideEach (e ∷ es) q = (e.reach (at_limit e.limit q) ≡ false) × OutsideEach es q
+OutsideEach es q = All (λ e. e.reach (at_limit e.limit q) ≡ false) es
 
 -- the question is outside the reach of every engine in the pile, at each limit at which it may be asked
 abbrev pub Outside : Pile → Question → Type 0

@@ -1,7 +1,8 @@
 //! What an engine answers.
 
 /// Whether two nets agree under every input code.
-#[derive(Clone, Copy)]
+// (d) Not `Option` of a verdict: the product names three answers, and in one enum each has its name.
+#[derive(Clone, Copy, PartialEq, Eq, Debug)]
 pub enum Answer {
     /// They agree under every code.
     Equal,

@@ -1,14 +1,16 @@
 //! Two engines, one after the other.
 ghost use Rattle.engine.specs.Piles.{chain};
 ghost use Rattle.engine.specs.Answers.{Chained};
+ghost use Rattle.engine.specs.Asked.{Askable, Asked, asked_of};
 
 use crate::answer::Answer;
 use crate::engine::Engine;
+use crate::query::Query;
 use crate::workspace::Workspace;
-use aig::{Graph, Net};
+use aig::Graph;
 
 /// Asks the first engine, and the second if the first is undecided. Its reach is either's.
-#[derive(Drop)]
+#[derive(PartialEq, Eq, Debug, Drop)]
 pub struct Chain<P, Q> {
     pub first: P,
     pub second: Q,
@@ -19,17 +21,26 @@ impl<P: Engine, Q: Engine> Engine for Chain<P, Q> {
 
     ghost gives = { λ c. Chained (P.Engine.gives c.first) (Q.Engine.gives c.second) };
 
-    fn ask(
-        &self,
-        graph: &mut Graph,
-        a: Net,
-        b: Net,
-        limit: usize,
-        workspace: &mut Workspace,
-    ) -> Answer {
-        match self.first.ask(graph, a, b, limit, workspace) {
-            Answer::Undecided => self.second.ask(graph, a, b, limit, workspace),
-            decided => decided,
-        }
+    fn ask(&self, graph: &mut Graph, query: Query, workspace: &mut Workspace) -> Answer {
+        chained(&self.first, &self.second, graph, query, workspace)
+    }
+}
+
+/// Asks an engine, and another if it is undecided.
+pub fn chained<P: Engine, Q: Engine>(
+    first: &P,
+    second: &Q,
+    graph: &mut Graph,
+    query: Query,
+    workspace: &mut Workspace,
+) -> Answer
+    requires { Askable graph.old query workspace.old }
+    ensures asked { Asked (chain (P.pile first.now) (Q.pile second.now)) graph.old query workspace.old result graph.new workspace.new }
+    ensures given { Chained (P.gives first.now) (Q.gives second.now) (asked_of graph.old query workspace.old) result }
+{
+    // (c) Not `or_else` over a closure: of one that is let go uncalled nothing says that the graph it borrowed stays.
+    match first.ask(graph, query, workspace) {
+        Answer::Undecided => second.ask(graph, query, workspace),
+        decided => decided,
     }
 }

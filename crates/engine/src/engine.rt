@@ -4,8 +4,9 @@ ghost use Rattle.engine.specs.Answers.{Giving};
 ghost use Rattle.engine.specs.Asked.{Askable, Asked, asked_of};
 
 use crate::answer::Answer;
+use crate::query::Query;
 use crate::workspace::Workspace;
-use aig::{Graph, Net};
+use aig::Graph;
 
 /// An engine: it is asked whether two nets of a graph agree under every input code.
 pub trait Engine {
@@ -15,16 +16,9 @@ pub trait Engine {
     /// Which answers it may give to a question.
     ghost gives: { Self → Giving };
 
-    /// Asks whether the nets `a` and `b` agree. Sizes that the engine handles are at most `limit`.
-    fn ask(
-        &self,
-        graph: &mut Graph,
-        a: Net,
-        b: Net,
-        limit: usize,
-        workspace: &mut Workspace,
-    ) -> Answer
-        requires { Askable graph.old a b limit workspace.old }
-        ensures asked { Asked (pile self.now) graph.old a b limit workspace.old result graph.new workspace.new }
-        ensures given { gives self.now (asked_of graph.old a b limit workspace.old) result };
+    /// Asks whether the two nets of the query agree.
+    fn ask(&self, graph: &mut Graph, query: Query, workspace: &mut Workspace) -> Answer
+        requires { Askable graph.old query workspace.old }
+        ensures asked { Asked (pile self.now) graph.old query workspace.old result graph.new workspace.new }
+        ensures given { gives self.now (asked_of graph.old query workspace.old) result };
 }

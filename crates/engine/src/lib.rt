@@ -6,11 +6,11 @@
 
 mod answer;
 mod chain;
-mod climbs;
 mod engine;
 mod examples;
 mod ladder;
 mod never;
+mod query;
 mod tower;
 mod workspace;
 
@@ -20,5 +20,6 @@ pub use engine::Engine;
 pub use examples::worked_piles_stand;
 pub use ladder::Ladder;
 pub use never::Never;
+pub use query::Query;
 pub use tower::Tower;
 pub use workspace::Workspace;

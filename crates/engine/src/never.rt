@@ -5,11 +5,12 @@ ghost use Rattle.engine.specs.declared.answer.Answer.TheVariants.{Undecided};
 
 use crate::answer::Answer;
 use crate::engine::Engine;
+use crate::query::Query;
 use crate::workspace::Workspace;
-use aig::{Graph, Net};
+use aig::Graph;
 
 /// An engine that always answers undecided. It has the empty reach, and can claim no other.
-#[derive(Drop)]
+#[derive(Clone, Copy, PartialEq, Eq, Debug)]
 pub struct Never;
 
 impl Engine for Never {
@@ -17,14 +18,7 @@ impl Engine for Never {
 
     ghost gives = { λ _ _ r. r ≡ Undecided };
 
-    fn ask(
-        &self,
-        graph: &mut Graph,
-        a: Net,
-        b: Net,
-        limit: usize,
-        workspace: &mut Workspace,
-    ) -> Answer {
+    fn ask(&self, _graph: &mut Graph, _query: Query, _workspace: &mut Workspace) -> Answer {
         Answer::Undecided
     }
 }

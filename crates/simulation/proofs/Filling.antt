@@ -1,5 +1,5 @@
 -- The loop that fills the words of the vertices, vertex by vertex: what holds in each lane.
-use Rattle.std.proofs.Common.{◌≡◌, ℕ, ◌+◌, ◌/◌, ◌%◌, ◌<◌, Bool, not, List, length, set, sym, ap, ◌∙◌, arith, get_or-set_other, get_or-set_same, below_more}
+use Rattle.std.proofs.Common.{◌≡◌, ℕ, ◌+◌, ◌/◌, ◌%◌, ◌^◌, ◌-◌, ◌<◌, not, List, length, get_or, set, sym, ap, ◌∙◌, arith, get_or-set_other, get_or-set_same, below_more}
 use Rattle.aig.specs.declared.vertex.Vertex.{Vertex}
 use Rattle.aig.specs.Nets.{flip, net_value}
 use Rattle.aig.specs.Table.{left_of, right_of}
@@ -7,10 +7,16 @@ use Rattle.aig.specs.Values.{bit, value_by, vertex_value, value}
 use Rattle.aig.specs.Invariant.{ReadsEarlier}
 use Rattle.aig.proofs.Valued.{by_same, value_obeys}
 use Rattle.simulation.specs.Lanes.{lane}
+use Rattle.simulation.proofs.Bitwise.{bit-bit_not}
 
--- an inverse net has the opposite value
-pub odd_net : (ρ : ℕ → Bool) (x : ℕ) → (x % 2 ≡ 0 → ⊥) → net_value ρ x ≡ not (ρ (x / 2))
-odd_net ρ x h = let e : x % 2 ≡ 1 = omega arith in ap (λ (d : ℕ). flip not d (ρ (x / 2))) e
+-- the word of an inverse net
+pub inverse_word : (words : List ℕ) (x v k : ℕ) → v ≡ x / 2 → (x % 2 ≡ 0 → ⊥) → get_or words v 0 < 2 ^ 64 → k < 64
+    → bit (18446744073709551615 - get_or words v 0) k ≡ net_value (lane words k) x
+inverse_word words x v k e odd small h =
+    let one : x % 2 ≡ 1 = omega arith in
+    bit-bit_not (get_or words v 0) k small h
+    ∙ ap (λ (y : ℕ). not (bit (get_or words y 0) k)) e
+    ∙ sym (ap (λ (d : ℕ). flip not d (bit (get_or words (x / 2) 0) k)) one)
 
 module _ (n : ℕ) (t : List Vertex) (early : ReadsEarlier n t) (code k : ℕ) where
   next_value : (ws : List ℕ) (v : ℕ) → v < length t → ((x : ℕ) → x < v → lane ws k x ≡ vertex_value n t code x)

@@ -1,19 +1,10 @@
 -- The earliest code of a list that separates two functions, by its index.
-use Rattle.std.specs.Prelude.{◌≡◌, ℕ, suc, ◌<◌, Bool, true, false, cond, not, List, [], ◌∷◌, length, Some, None, Option, slice_index}
-
-abbrev pub differ : Bool → Bool → Bool
-differ true b = not b
-differ false b = b
-
--- an index in a list, seen from the list with one more code in front
-abbrev pub later : Option ℕ → Option ℕ
-later (Some k) = Some (suc k)
-later None = None
+use Rattle.std.specs.Prelude.{◌≡◌, ℕ, ◌<◌, Bool, List, length, position, Some, None, Option, slice_index}
+use Rattle.gates.specs.Kinds.{differ}
 
 -- the index of the first code of the list at which `f` and `g` differ
 abbrev pub earliest : List ℕ → (ℕ → Bool) → (ℕ → Bool) → Option ℕ
-earliest [] f g = None
-earliest (c ∷ cs) f g = cond (differ (f c) (g c)) (Some 0) (later (earliest cs f g))
+earliest codes f g = position (λ c. differ (f c) (g c)) codes
 
 -- code `k` of the list separates `f` and `g`, and no earlier one does
 pub record FirstApart (codes : List ℕ) (f g : ℕ → Bool) (k : ℕ) : Type 0 where

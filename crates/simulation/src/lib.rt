@@ -2,14 +2,15 @@
 //! list that separates two nets. Nothing here allocates.
 #![tactic(auto)]
 
+mod codes;
 mod examples;
-mod gathering;
 mod laws;
 mod separation;
 #[cfg(test)]
 mod tests;
 mod words;
 
+pub use codes::Codes;
 pub use examples::worked_lists_stand;
 pub use laws::earliest_law_stands;
 pub use separation::earliest;

@@ -1,5 +1,5 @@
 //! XOR and AND of two inputs under the codes 0 to 3.
-use crate::{earliest, simulate};
+use crate::{Codes, earliest, simulate};
 use aig::{Graph, Net};
 use std::test::Fail;
 
@@ -22,16 +22,19 @@ fn xor_and_and(rt: HostRuntime) -> Result<(), Fail> {
     assert!(rt; graph.used() == 6);
     assert!(rt; both.vertex() < 6 && neither.vertex() < 6 && one.vertex() < 6);
     let mut words = [7u64; 8];
-    simulate(&graph, &[0, 1, 2, 3], &mut words);
+    simulate(&graph, Codes::new(&[0, 1, 2, 3]), &mut words);
     assert_eq!(rt; words[1], 0b1010);
     assert_eq!(rt; words[2], 0b1100);
     assert_eq!(rt; words[3], 0b1000);
     assert_eq!(rt; words[5], 0b0110);
     assert_eq!(rt; words[6], 7);
     assert_eq!(rt;
-        earliest(&graph, &[0, 3, 1], one, both, &mut words),
+        earliest(&graph, Codes::new(&[0, 3, 1]), one, both, &mut words),
         Some(1)
     );
-    assert_eq!(rt; earliest(&graph, &[1, 2], both, neither, &mut words), None);
+    assert_eq!(rt;
+        earliest(&graph, Codes::new(&[1, 2]), both, neither, &mut words),
+        None
+    );
     Ok(())
 }

@@ -12,13 +12,7 @@ loop-v-preserved c =
     let w = c.vertex_word.result in
     let inside : v < length (vertices g) = omega arith in
     let there : v < length words = omega arith in (
-      λ k x hk. filled_more (inputs_of g) (vertices g) (whole_of g).earlier (get_or c.args.codes.now k 0) k words v w inside there
+      λ k x hk. filled_more (inputs_of g) (vertices g) (whole_of g).earlier (get_or c.args.codes.list.now k 0) k words v w inside there
           (c.vertex_word.ensures k hk) (λ y hy. c.loop-v.invariant.0 k y hk hy) x,
       λ x h. get_or-set_other words v x w 0 (λ p. omega arith) ∙ c.loop-v.invariant.1 x (omega arith),
     )
-
-pub returns : goal.returns
-returns c = record {
-  simulated = λ k v hk h. c.loop-v.invariant.0 k v hk (omega arith);
-  rest = λ v h. c.loop-v.invariant.1 v (omega arith);
-}

@@ -6,5 +6,5 @@ use Rattle.simulation.proofs.words.simulate.Given as goal
 
 abbrev pub invariant-loop-v : goal.invariant-loop-v
 invariant-loop-v l =
-    ((k x : ℕ) → k < length l.codes → x < l.v → lane l.words k x ≡ vertex_value (inputs_of l.graph) (vertices l.graph) (get_or l.codes k 0) x)
+    ((k x : ℕ) → k < length l.codes.list.now → x < l.v → lane l.words k x ≡ vertex_value (inputs_of l.graph) (vertices l.graph) (get_or l.codes.list.now k 0) x)
     × ((x : ℕ) → l.v ≤ x → get_or l.words x 0 ≡ get_or l.initial.words x 0)

@@ -18,4 +18,4 @@ returns-else-v-inputs c k h =
     ∙ ap (λ (b : Bool). b && bit c.net_word-else-v-inputs.result k) (c.net_word.ensures k low)
     ∙ ap (λ (b : Bool). net_value ρ c.vertex-gate.result.left.0 && b) (c.net_word-else-v-inputs.ensures k low)
     ∙ ap (λ (x : Vertex). net_value ρ x.left.0 && net_value ρ x.right.0) c.vertex-gate.ensures
-    ∙ sym (by_gate (inputs_of g) (vertices g) (get_or c.args.codes.now k 0) ρ c.args.v after)
+    ∙ sym (by_gate (inputs_of g) (vertices g) (get_or c.args.codes.list.now k 0) ρ c.args.v after)
