@@ -91,9 +91,9 @@ module _ {n : ℕ} {t : List Vertex} (w : Whole n t) {x y : ℕ} (j : Joinable n
   not_apart true e = both_ways true e refl
   not_apart false e = both_ways false refl e
 
-  module _ (apart : survivor_of t x ≡ survivor_of t y → ⊥) where
-    differ : a ≡ b → ⊥
-    differ e = elim o.either [ inl f ↦ apart (sym f.0 ∙ e ∙ f.1) | inr f ↦ apart (sym f.1 ∙ sym e ∙ f.0) ]
+  module _ (differ : a ≡ b → ⊥) where
+    apart : survivor_of t x ≡ survivor_of t y → ⊥
+    apart e = differ (elim o.either [ inl f ↦ f.0 ∙ e ∙ sym f.1 | inr f ↦ f.0 ∙ sym e ∙ sym f.1 ])
 
     before : a / 2 < b / 2
     before = elim (cases_lt (a / 2) (b / 2)) [

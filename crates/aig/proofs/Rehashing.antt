@@ -5,7 +5,7 @@ use Rattle.aig.specs.Table.{vertex, none, left_of, right_of, link_of, survivor_o
 use Rattle.aig.specs.Nets.{carried, flip}
 use Rattle.aig.specs.Cascade.{Composed, Shape, Stale, Clean, UniqueBut, AllProper, Ready, Merged, Rehashed, Dirty}
 use Rattle.aig.specs.Invariant.{Proper}
-use Rattle.aig.specs.Pairs.{Folds, zero_first, one_first, same, opposed}
+use Rattle.aig.specs.Pairs.{Folds, zero_first, one_first, same, opposed, at, Known, folds, found}
 use Rattle.aig.specs.Algebras.{Algebra, Of, Carrier, Respects, net_at}
 use Rattle.aig.proofs.Orders.{Ordered}
 use Rattle.aig.specs.declared.vertex.Vertex.{Vertex}
@@ -172,6 +172,15 @@ module _ {n : ℕ} {t : List Vertex} {w : ℕ} (d : Dirty n t w) where
         | inr p ↦ d.stale.lost (subst (λ (k : ℕ). Stands t k) p (subst (λ (k : ℕ). Stands t (right_of t k / 2)) e twin_clean.second))
       ]
 
+    -- the pair is known, by a net of an earlier vertex
+    pub known_ready : (net : ℕ) → Known n t a b net → net / 2 < w → Ready n t net w
+    known_ready _ (folds net f) h = fold_ready net f
+    known_ready _ (found _ p (at v s l r)) h = twin_ready s.after s.inside s.stands l r (omega arith)
+
+    pub known_done : {u : List Vertex} (net : ℕ) → Known n t a b net → net / 2 < w → Merged n t net w u → Rehashed n t w u
+    known_done _ (folds net f) h m = fold_done net f m
+    known_done _ (found _ p (at v s l r)) h m = twin_done s.after s.inside s.stands l r (omega arith) m
+
     -- ---- the pair written
 
     abbrev written : List Vertex
@@ -307,6 +316,9 @@ module _ {n : ℕ} {t : List Vertex} {w : ℕ} (d : Dirty n t w) where
       follows = λ c A ρ s. written_respects A ρ s;
     }
 
+    pub written_less : standing written (length written) ≤ standing t (length t)
+    written_less = subst (λ (m : ℕ). standing written m ≤ standing t (length t)) (sym written_long) (standing_le t written (length t) written_falls)
+
     -- a later vertex has the pair
     module _ {x : ℕ} (gate : n < x) (inside : x < length t) (stands : Stands t x) (left : left_of t x ≡ a) (right : right_of t x ≡ b) (later : w ≤ x) where
       after : w < x
@@ -324,9 +336,6 @@ module _ {n : ℕ} {t : List Vertex} {w : ℕ} (d : Dirty n t w) where
         proper = written_proper p;
       }
 
-      pub later_less : standing written (length written) ≤ standing t (length t)
-      later_less = subst (λ (m : ℕ). standing written m ≤ standing t (length t)) (sym written_long) (standing_le t written (length t) written_falls)
-
       pub later_done : {u : List Vertex} → Merged n written (2 * w) x u → Rehashed n t w u
       later_done {u} m = record {
         step = record {
@@ -339,3 +348,16 @@ module _ {n : ℕ} {t : List Vertex} {w : ℕ} (d : Dirty n t w) where
         stale = λ y v e. written_stale y v (m.stale y v e);
         follows = λ c A ρ s. m.forced c A ρ (written_respects A ρ s) (value_twice A ρ w ∙ sym (twin_value gate inside stands left right A ρ s));
       }
+
+    -- the pair is known, by the net of a later vertex
+    pub after_ready : (net : ℕ) → Known n t a b net → w ≤ net / 2 → Ready n written (2 * w) (net / 2)
+    after_ready _ (folds net f) h = let k = fold_low net f in absurd (omega arith)
+    after_ready _ (found _ p (at v s l r)) h =
+        let half : v ≡ 2 * v / 2 = omega arith in
+        subst (λ (k : ℕ). Ready n written (2 * w) k) half (later_ready s.after s.inside s.stands l r (omega arith) p)
+
+    pub after_done : {u : List Vertex} (net : ℕ) → Known n t a b net → w ≤ net / 2 → Merged n written (2 * w) (net / 2) u → Rehashed n t w u
+    after_done _ (folds net f) h m = let k = fold_low net f in absurd (omega arith)
+    after_done {u} _ (found _ p (at v s l r)) h m =
+        let half : 2 * v / 2 ≡ v = omega arith in
+        later_done s.after s.inside s.stands l r (omega arith) (subst (λ (k : ℕ). Merged n written (2 * w) k u) half m)
