@@ -31,13 +31,12 @@ impl Table<'_> {
             (Absent self.entry.inputs self.entry.vertices.now pair.low.0 pair.high.0)
             (λ net. Present self.entry.inputs self.entry.vertices.now pair.low.0 pair.high.0 net.0) }
     {
-        // A loop: as a chain of enumerate, skip and find it took eight times as long.
-        for v in self.inputs + 1..self.vertices.len() {
-            if self.vertices[v].has(pair) && self.vertices[v].stands(v) {
-                return Some(Net::of(v));
-            }
-        }
-        None
+        self.vertices
+            .iter()
+            .enumerate()
+            .skip(self.inputs + 1)
+            .find(|(v, vertex)| vertex.has(pair) && vertex.stands(*v))
+            .map(|(v, _)| Net::of(v))
     }
 
     /// The net that is the AND of a pair by the first line that fits, or none where that is a new vertex's.
