@@ -16,9 +16,6 @@ flip_one l =
       | inr e ↦ (let lo2 : bit_xor l 1 % 2 ≡ 0 = lo ∙ ap (λ (x : ℕ). bit_xor x 1) e in omega arith)
     ]
 
-pub carried_one : (l : ℕ) → bit_xor l 1 ≡ carried l 1
-carried_one = flip_one
-
 pub carried_is : (l x : ℕ) → bit_xor l (bit_and x 1) ≡ carried l x
 carried_is l x =
     let m : bit_and x 1 ≡ x % 2 = and_mask x 1 in
