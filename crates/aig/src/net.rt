@@ -2,6 +2,8 @@
 ghost use Rattle.std.specs.Prelude.{◌≡◌, ◌*◌, ◌/◌, ◌%◌, ◌<◌, ◌^◌, IsTrue, ◌↔◌};
 ghost use Rattle.aig.specs.Nets.{carried, inverse};
 
+use std::fmt;
+
 /// A net: `2v` is the value of vertex `v`, and `2v + 1` is its inverse.
 #[derive(Clone, Copy, PartialEq, Eq, PartialOrd, Ord, Hash, Debug)]
 pub struct Net(pub u16);
@@ -47,5 +49,12 @@ impl Net {
         ensures { result.0 ≡ carried self.0 other.0 }
     {
         Net(self.0 ^ (other.0 & 1))
+    }
+}
+
+/// A net is printed as its number.
+impl fmt::Display for Net {
+    fn fmt<W: fmt::Write>(&self, f: &mut fmt::Formatter<W>) -> fmt::Result {
+        write!(f, "{}", self.0)
     }
 }

@@ -5,6 +5,7 @@ use crate::net::Net;
 use crate::pair::Pair;
 
 /// A vertex of the graph: the two nets that it is the AND of, and the net that stands for it.
+// The two nets are no `Pair`: the constant and the inputs are of this type too, and have none.
 #[derive(Clone, Copy, PartialEq, Eq, Debug)]
 pub struct Vertex {
     pub left: Net,

@@ -114,10 +114,7 @@ fn worked(rt: HostRuntime, words: &mut [u64]) -> io::Result<()> {
     let Some((xor, mux, merged, survivor)) = worked_merge(&mut graph, words) else {
         return println!(rt; "the worked run made too few vertices");
     };
-    println!(rt;
-        "nets {} and {}: merged {merged}, net 16 has survivor {}",
-        xor.0, mux.0, survivor.0
-    )
+    println!(rt; "nets {xor} and {mux}: merged {merged}, net 16 has survivor {survivor}")
 }
 
 /// A full table, and the cascade that one merge sets off in it.
@@ -141,9 +138,7 @@ fn full(rt: HostRuntime, words: &mut [u64], timed: bool) -> io::Result<()> {
 }
 
 fn main(rt: HostRuntime) -> io::Result<()> {
-    let mut arguments = env::args(&rt)?;
-    let _ = arguments.next();
-    let timed = arguments.next().is_some();
+    let timed = env::args(&rt)?.nth(1).is_some();
     let mut words = vec![in rt.alloc(); 0u64; MOST_VERTICES]?;
     worked(rt, &mut words)?;
     full(rt, &mut words, timed)
