@@ -28,8 +28,9 @@ fn agree(graph: &Graph, x: Net, y: Net, words: &mut [u64]) -> bool
     requires enough { used graph.now ≤ length words.old }
     ensures { T result → (code : ℕ) → value (inputs_of graph.now) (vertices graph.now) x.0 code ≡ value (inputs_of graph.now) (vertices graph.now) y.0 code }
 {
-    (0..1u64 << graph.inputs()).all(|code| graph.value(x, code, words)
-        == graph.value(y, code, words))
+    (0..1u64 << graph.inputs()).all(|code| {
+        graph.value(x, code, words) == graph.value(y, code, words)
+    })
 }
 
 /// Merges two nets of a graph with at most `MOST_INPUTS` inputs if they agree under every input code.
