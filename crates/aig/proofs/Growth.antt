@@ -6,14 +6,14 @@ use Rattle.aig.specs.Table.{vertex, none, left_of, right_of, link_of, survivor_o
 use Rattle.aig.specs.Invariant.{Proper, StandingGate, MergedAway, Twins, ReadsEarlier, Whole}
 use Rattle.aig.specs.Pairs.{at, Known, folds, found, Unknown}
 use Rattle.aig.specs.Nets.{flip, net_value}
-use Rattle.aig.specs.Algebras.{booleans, and_swap}
+use Rattle.aig.specs.Algebras.{booleans}
 use Rattle.aig.specs.Values.{bit, value_by, vertex_value, value}
 use Rattle.aig.specs.Ands.{Anded}
-use Rattle.aig.proofs.Orders.{Ordered}
+use Rattle.aig.proofs.Orders.{Ordered, of_both}
 use Rattle.aig.specs.declared.vertex.Vertex.{Vertex}
 use Rattle.aig.proofs.Nets.{value_twice}
 use Rattle.aig.proofs.Merging.{link_low}
-use Rattle.aig.proofs.Rehashing.{survivor_stands, survivor_low, survivor_value, fold_value, fold_vertex}
+use Rattle.aig.proofs.Rehashing.{survivor_stands, survivor_low, pair_both, fold_value, fold_vertex}
 use Rattle.aig.proofs.Valued.{value_obeys, value_zero, value_gate, value_only}
 use Rattle.aig.proofs.Lines.{known_lines, fresh_lines}
 use Rattle.aig.proofs.Wholes.{shape_of, respects_of}
@@ -21,38 +21,17 @@ use Rattle.aig.proofs.Wholes.{shape_of, respects_of}
 -- ---- the pair of two nets
 
 module _ {n : ℕ} {t : List Vertex} (w : Whole n t) (x y : ℕ) {a b : ℕ} (hx : x / 2 < length t) (hy : y / 2 < length t) (o : Ordered (survivor_of t x) (survivor_of t y) a b) where
-  first_both : (P : ℕ → Type 0) → P (survivor_of t x) → P (survivor_of t y) → P a
-  first_both P p q = elim o.either [ inl e ↦ subst P (sym e.0) p | inr e ↦ subst P (sym e.0) q ]
-
-  second_both : (P : ℕ → Type 0) → P (survivor_of t x) → P (survivor_of t y) → P b
-  second_both P p q = elim o.either [ inl e ↦ subst P (sym e.1) q | inr e ↦ subst P (sym e.1) p ]
-
   low : (z : ℕ) → z / 2 < length t → survivor_of t z / 2 < length t
   low z h = omega (arith, survivor_low (shape_of w) z h)
 
-  pub first_in : a / 2 < length t
-  first_in = first_both (λ z. z / 2 < length t) (low x hx) (low y hy)
+  pub pair_in : (a / 2 < length t) × (b / 2 < length t)
+  pair_in = of_both o (λ z. z / 2 < length t) (low x hx) (low y hy)
 
-  pub second_in : b / 2 < length t
-  second_in = second_both (λ z. z / 2 < length t) (low x hx) (low y hy)
-
-  pub first_up : Stands t (a / 2)
-  first_up = first_both (λ z. Stands t (z / 2)) (survivor_stands (shape_of w) x hx) (survivor_stands (shape_of w) y hy)
-
-  pub second_up : Stands t (b / 2)
-  second_up = second_both (λ z. Stands t (z / 2)) (survivor_stands (shape_of w) x hx) (survivor_stands (shape_of w) y hy)
+  pub pair_up : Stands t (a / 2) × Stands t (b / 2)
+  pair_up = of_both o (λ z. Stands t (z / 2)) (survivor_stands (shape_of w) x hx) (survivor_stands (shape_of w) y hy)
 
   pub pair_and : (code : ℕ) → (net_value (vertex_value n t code) a && net_value (vertex_value n t code) b) ≡ (net_value (vertex_value n t code) x && net_value (vertex_value n t code) y)
-  pair_and code =
-      let ρ : ℕ → Bool = vertex_value n t code in
-      let vx = survivor_value booleans ρ (respects_of w code) x hx in
-      let vy = survivor_value booleans ρ (respects_of w code) y hy in
-      elim o.either [
-        | inl e ↦ ap (λ (k : ℕ). net_value ρ k && net_value ρ b) e.0 ∙ ap (λ (k : ℕ). net_value ρ (survivor_of t x) && net_value ρ k) e.1
-            ∙ ap (λ (v : Bool). v && net_value ρ (survivor_of t y)) vx ∙ ap (λ (v : Bool). net_value ρ x && v) vy
-        | inr e ↦ and_swap (net_value ρ a) (net_value ρ b) ∙ ap (λ (k : ℕ). net_value ρ k && net_value ρ a) e.1 ∙ ap (λ (k : ℕ). net_value ρ (survivor_of t x) && net_value ρ k) e.0
-            ∙ ap (λ (v : Bool). v && net_value ρ (survivor_of t y)) vx ∙ ap (λ (v : Bool). net_value ρ x && v) vy
-      ]
+  pair_and code = pair_both booleans (vertex_value n t code) (respects_of w code) x y hx hy o
 
   known_value : (net : ℕ) → Known n t a b net → (code : ℕ) → net_value (vertex_value n t code) net ≡ (net_value (vertex_value n t code) a && net_value (vertex_value n t code) b)
   known_value _ (folds net f) code = fold_value booleans (vertex_value n t code) (value_zero n t code) a b net f
@@ -62,7 +41,7 @@ module _ {n : ℕ} {t : List Vertex} (w : Whole n t) (x y : ℕ) {a b : ℕ} (hx
       ∙ ap (λ (k : ℕ). net_value (vertex_value n t code) a && net_value (vertex_value n t code) k) r
 
   known_in : (net : ℕ) → Known n t a b net → net / 2 < length t
-  known_in _ (folds net f) = fold_vertex (λ v. v < length t) a b net f (omega (arith, hx)) first_in second_in
+  known_in _ (folds net f) = fold_vertex (λ v. v < length t) a b net f (omega (arith, hx)) pair_in.0 pair_in.1
   known_in _ (found _ p (at v s l r)) = omega (arith, s.inside)
 
   pub known_anded : (net : ℕ) → Known n t a b net → Anded n t x y net t

@@ -11,7 +11,7 @@ use Rattle.aig.specs.Algebras.{booleans}
 use Rattle.aig.specs.Invariant.{Whole, ReadsEarlier}
 use Rattle.aig.specs.Merges.{Mergeable, AfterMerge, Joinable, Joined, later}
 use Rattle.aig.proofs.Nets.{bit_cases, half_carried, value_carried, flip_twice}
-use Rattle.aig.proofs.Orders.{Ordered, smaller_is, larger_is}
+use Rattle.aig.proofs.Orders.{Ordered, sorted, either, of_both}
 use Rattle.aig.proofs.Merging.{carried_carried, carried_own}
 use Rattle.aig.proofs.Rehashing.{survivor_stands, survivor_low, survivor_value}
 use Rattle.aig.proofs.Valued.{by_zero, by_input, value_obeys}
@@ -63,17 +63,14 @@ flips_apart x e =
 -- ---- the merge that joins two nets
 
 module _ {n : ℕ} {t : List Vertex} (w : Whole n t) {x y : ℕ} (j : Joinable n t x y) {a b : ℕ} (o : Ordered (survivor_of t x) (survivor_of t y) a b) where
-  of_survivors : (P : ℕ → Type 0) → P (survivor_of t x) → P (survivor_of t y) → P a × P b
-  of_survivors P p q = elim o.either [ inl e ↦ (subst P (sym e.0) p, subst P (sym e.1) q) | inr e ↦ (subst P (sym e.0) q, subst P (sym e.1) p) ]
-
   within : (z : ℕ) → z / 2 < length t → survivor_of t z / 2 < length t
   within z h = omega (arith, survivor_low (shape_of w) z h)
 
   inside : (a / 2 < length t) × (b / 2 < length t)
-  inside = of_survivors (λ z. z / 2 < length t) (within x j.first) (within y j.second)
+  inside = of_both o (λ z. z / 2 < length t) (within x j.first) (within y j.second)
 
   stand : Stands t (a / 2) × Stands t (b / 2)
-  stand = of_survivors (λ z. Stands t (z / 2)) (survivor_stands (shape_of w) x j.first) (survivor_stands (shape_of w) y j.second)
+  stand = of_both o (λ z. Stands t (z / 2)) (survivor_stands (shape_of w) x j.first) (survivor_stands (shape_of w) y j.second)
 
   survivor_is : (z : ℕ) → z / 2 < length t → (code : ℕ) → value n t (survivor_of t z) code ≡ value n t z code
   unfolding value
@@ -82,7 +79,7 @@ module _ {n : ℕ} {t : List Vertex} (w : Whole n t) {x y : ℕ} (j : Joinable n
   agree : (code : ℕ) → value n t a code ≡ value n t b code
   agree code =
       let s : value n t (survivor_of t x) code ≡ value n t (survivor_of t y) code = survivor_is x j.first code ∙ j.agree code ∙ sym (survivor_is y j.second code) in
-      elim o.either [
+      elim (either o) [
         | inl e ↦ ap (λ (z : ℕ). value n t z code) e.0 ∙ s ∙ ap (λ (z : ℕ). value n t z code) (sym e.1)
         | inr e ↦ ap (λ (z : ℕ). value n t z code) e.0 ∙ sym s ∙ ap (λ (z : ℕ). value n t z code) (sym e.1)
       ]
@@ -91,14 +88,14 @@ module _ {n : ℕ} {t : List Vertex} (w : Whole n t) {x y : ℕ} (j : Joinable n
   not_apart true e = both_ways true e refl
   not_apart false e = both_ways false refl e
 
-  module _ (apart : survivor_of t x ≡ survivor_of t y → ⊥) where
-    differ : a ≡ b → ⊥
-    differ e = elim o.either [ inl f ↦ apart (sym f.0 ∙ e ∙ f.1) | inr f ↦ apart (sym f.1 ∙ sym e ∙ f.0) ]
+  module _ (differ : a ≡ b → ⊥) where
+    apart : survivor_of t x ≡ survivor_of t y → ⊥
+    apart e = differ (elim (either o) [ inl f ↦ f.0 ∙ e ∙ sym f.1 | inr f ↦ f.0 ∙ sym e ∙ sym f.1 ])
 
     before : a / 2 < b / 2
     before = elim (cases_lt (a / 2) (b / 2)) [
       | inl h ↦ h
-      | inr h ↦ (let s = o.sorted in let ne = differ in let e : b ≡ inverse a = omega arith in
+      | inr h ↦ (let s = sorted o in let ne = differ in let e : b ≡ inverse a = omega arith in
           absurd (not_apart (value n t a 0) (agree 0 ∙ ap (λ (z : ℕ). value n t z 0) e ∙ value_inverse n t a 0)))
     ]
 
@@ -149,7 +146,7 @@ module _ {n : ℕ} {t : List Vertex} (w : Whole n t) {x y : ℕ} (j : Joinable n
       second_is = ap (λ (v : ℕ). carried (link_of u v) b) (sym eg) ∙ ap (λ (k : ℕ). carried k b) (m.linked ∙ ek) ∙ carried_back a b
 
       one : survivor_of u x ≡ survivor_of u y
-      one = through x j.first ∙ elim o.either [
+      one = through x j.first ∙ elim (either o) [
         | inl e ↦ ap (survivor_of u) (sym e.0) ∙ first_is ∙ sym second_is ∙ ap (survivor_of u) e.1
         | inr e ↦ ap (survivor_of u) (sym e.1) ∙ second_is ∙ sym first_is ∙ ap (survivor_of u) e.0
       ] ∙ sym (through y j.second)
@@ -159,10 +156,6 @@ module _ {n : ℕ} {t : List Vertex} (w : Whole n t) {x y : ℕ} (j : Joinable n
         one = one;
         already = λ e. absurd (apart e);
         merged = λ _. subst (λ (k : ℕ). AfterMerge n t k (later (survivor_of t x) (survivor_of t y)) u)
-            (ek ∙ ap (λ (k : ℕ). carried k b) (sym (smaller_is o)) ∙ ap (carried (min (survivor_of t x) (survivor_of t y))) (sym (larger_is o)))
-            (subst (λ (k : ℕ). AfterMerge n t keep k u) (eg ∙ ap (λ (k : ℕ). k / 2) (sym (larger_is o))) m);
+            (ek ∙ ap (λ (k : ℕ). carried k b) o.low ∙ ap (carried (min (survivor_of t x) (survivor_of t y))) o.high)
+            (subst (λ (k : ℕ). AfterMerge n t keep k u) (eg ∙ ap (λ (k : ℕ). k / 2) o.high) m);
       }
-
--- nets with one survivor are joined already
-pub joined_already : (n : ℕ) (t : List Vertex) (x y : ℕ) → survivor_of t x ≡ survivor_of t y → Joined n t x y t
-joined_already n t x y e = record { one = e; already = λ _. refl; merged = λ f. absurd (f e) }

@@ -7,7 +7,7 @@ use Rattle.aig.specs.Table.{left_of, right_of, survivor_of, vertex}
 use Rattle.aig.specs.Invariant.{Proper, StandingGate, NoTwins, Whole}
 use Rattle.aig.specs.Pairs.{Folds, zero_first, one_first, same, opposed, Absent, at, Known, folds, found, Unknown}
 use Rattle.aig.specs.Ands.{Made, has_pair, found as found_below, found_or_fresh, first_line, and_of}
-use Rattle.aig.proofs.Orders.{Ordered, smaller_is, larger_is}
+use Rattle.aig.proofs.Orders.{Ordered}
 
 -- ---- the search for a pair
 
@@ -88,7 +88,7 @@ module _ (n : ℕ) (t : List Vertex) (a b : ℕ) where
 module _ {n : ℕ} {t : List Vertex} (w : Whole n t) (x y : ℕ) {a b : ℕ} (o : Ordered (survivor_of t x) (survivor_of t y) a b) where
   by_pair : and_of n t x y ≡ first_line n t a b
   unfolding and_of
-  by_pair = ap (λ (k : ℕ). first_line n t k (max (survivor_of t x) (survivor_of t y))) (smaller_is o) ∙ ap (first_line n t a) (larger_is o)
+  by_pair = ap (λ (k : ℕ). first_line n t k (max (survivor_of t x) (survivor_of t y))) (sym o.low) ∙ ap (first_line n t a) (sym o.high)
 
   pub known_lines : (net : ℕ) → Known n t a b net → and_of n t x y ≡ record { net = net; table = t }
   known_lines net k = by_pair ∙ known_line n t a b w.unique net k

@@ -1,5 +1,6 @@
 -- Gates from their ANDs: what each AND gives, put together.
 use Rattle.std.proofs.Common.{◌≡◌, ℕ, ◌/◌, ◌%◌, ◌<◌, Bool, true, false, cond, not, ◌&&◌, ◌||◌, List, length, sym, refl, ap, ◌∙◌, subst, arith}
+use Rattle.std.proofs.Math.Bool.{not-not}
 use Rattle.gates.specs.declared.kind.Kind.{Kind}
 use Rattle.gates.specs.Kinds.{differ}
 use Rattle.aig.specs.declared.vertex.Vertex.{Vertex}
@@ -102,11 +103,7 @@ module _ {n : ℕ} {t : List Vertex} where
 
 pub or_function : (a b na nb : Bool) → na ≡ not a → nb ≡ not b → not (na && nb) ≡ (a || b)
 or_function true b na nb e f = ap (λ (k : Bool). not (k && nb)) e
-or_function false b na nb e f = ap (λ (k : Bool). not (k && nb)) e ∙ ap not f ∙ not_not b
-  where
-    not_not : (x : Bool) → not (not x) ≡ x
-    not_not true = refl
-    not_not false = refl
+or_function false b na nb e f = ap (λ (k : Bool). not (k && nb)) e ∙ ap not f ∙ not-not b
 
 pub nor_function : (a b na nb : Bool) → na ≡ not a → nb ≡ not b → (na && nb) ≡ not (a || b)
 nor_function true b na nb e f = ap (λ (k : Bool). k && nb) e

@@ -1,5 +1,5 @@
 -- Nets as the code computes them, and the value of an inverted net.
-use Rattle.std.proofs.Common.{◌≡◌, ℕ, ◌+◌, ◌*◌, ◌/◌, ◌%◌, ◌<◌, ◌≤◌, ◌⊎◌, sym, ap, ◌∙◌, inl, inr, arith}
+use Rattle.std.proofs.Common.{◌≡◌, ℕ, ◌+◌, ◌*◌, ◌/◌, ◌%◌, ◌⊎◌, sym, ap, ◌∙◌, inl, inr, arith}
 use lib.Bits.{bit_and, bit_xor, and_mask, xor_shr, xor_mod, xor_zero_r}
 use Rattle.aig.specs.Nets.{carried, flip}
 use Rattle.aig.specs.Algebras.{Algebra, net_at}
@@ -15,9 +15,6 @@ flip_one l =
       | inl e ↦ (let lo2 : bit_xor l 1 % 2 ≡ 1 = lo ∙ ap (λ (x : ℕ). bit_xor x 1) e in omega arith)
       | inr e ↦ (let lo2 : bit_xor l 1 % 2 ≡ 0 = lo ∙ ap (λ (x : ℕ). bit_xor x 1) e in omega arith)
     ]
-
-pub carried_one : (l : ℕ) → bit_xor l 1 ≡ carried l 1
-carried_one = flip_one
 
 pub carried_is : (l x : ℕ) → bit_xor l (bit_and x 1) ≡ carried l x
 carried_is l x =
@@ -62,9 +59,3 @@ module _ {X : Type 0} (A : Algebra X) where
       let e : 2 * v % 2 ≡ 0 = omega arith in
       let h : 2 * v / 2 ≡ v = omega arith in
       ap (λ (k : ℕ). flip A.opposite k (ρ (2 * v / 2))) e ∙ ap ρ h
-
--- a pair in order that no rule folds
-pub proper_left : (a b : ℕ) → 1 < a → a ≤ b → (a ≡ b → ⊥) → (b ≡ bit_xor a 1 → ⊥) → (1 < a) × (a / 2 < b / 2)
-proper_left a b one le ne apart =
-    let far : b ≡ carried a 1 → ⊥ = λ e. apart (e ∙ sym (carried_one a)) in
-    (one, omega arith)

@@ -1,5 +1,5 @@
 -- A table of the constant and the inputs alone.
-use Rattle.std.proofs.Common.{◌≡◌, ℕ, zero, suc, ◌+◌, ◌*◌, ◌<◌, List, [], ◌∷◌, ◌++◌, length, sym, refl, ap, ◌∙◌, inl, inr, add-one, arith}
+use Rattle.std.proofs.Common.{◌≡◌, ℕ, zero, suc, ◌+◌, ◌*◌, ◌<◌, List, [], ◌∷◌, length, sym, refl, ap, ◌∙◌, inl, inr, arith}
 use Rattle.std.proofs.lemmas.Bool.{cases_eq}
 use Rattle.std.proofs.lemmas.List.{length_push, get_or_push, get_or_append_left}
 use Rattle.aig.specs.declared.vertex.Vertex.{Vertex}
@@ -12,9 +12,6 @@ use Rattle.aig.proofs.Nets.{value_twice}
 pub row_length : (m : ℕ) → length (row m) ≡ m
 row_length zero = refl
 row_length (suc m) = length_push (row m) (vertex 0 0 (2 * m)) ∙ omega (arith, row_length m)
-
-pub row_more : (v : ℕ) → row v ++ vertex 0 0 (2 * v) ∷ [] ≡ row (v + 1)
-row_more v = ap row (sym (add-one v))
 
 row_links : (m k : ℕ) → k < m → link_of (row m) k ≡ 2 * k
 row_links zero k h = absurd (omega arith)
@@ -37,15 +34,3 @@ start_whole n t long few f = record {
 
 pub opening_whole : (n : ℕ) → n < 4096 → Whole n (opening n)
 opening_whole n h = start_whole n (opening n) (row_length (suc n) ∙ omega arith) h (λ k l. row_links (suc n) k (omega arith))
-
-pub nothing_whole : (n : ℕ) → Whole n []
-nothing_whole n = record {
-  few = λ h. absurd (omega arith);
-  small = omega arith;
-  linked = λ v m. absurd (omega (arith, m.inside));
-  earlier = λ v g. absurd (omega (arith, g.inside));
-  standing = λ v s. absurd (omega (arith, s.inside));
-  proper = λ v s. absurd (omega (arith, s.inside));
-  unique = λ x y e. absurd (omega (arith, e.one.inside));
-  equal = λ code v h. absurd (omega arith);
-}

@@ -1,13 +1,13 @@
 -- what `rehash` needs: the new pair, a merge of the vertex itself, and the pair written
-use Rattle.std.proofs.Common.{◌≡◌, ℕ, ◌+◌, ◌*◌, ◌/◌, ◌%◌, ◌<◌, ◌≤◌, ◌⊎◌, List, length, get_or, set, sym, ap, ◌∙◌, subst, inl, inr, arith, length-set, get_or-set_other, get_or-set_same}
+use Rattle.std.proofs.Common.{◌≡◌, ℕ, ◌*◌, ◌/◌, ◌%◌, ◌<◌, ◌≤◌, ◌⊎◌, List, length, get_or, set, sym, ap, ◌∙◌, subst, inl, inr, arith, length-set, get_or-set_other, get_or-set_same}
 use Rattle.std.proofs.lemmas.Bool.{cases_eq}
 use Rattle.aig.specs.Table.{vertex, none, left_of, right_of, link_of, survivor_of, Stands, standing}
 use Rattle.aig.specs.Nets.{carried, flip}
 use Rattle.aig.specs.Cascade.{Composed, Shape, Stale, Clean, UniqueBut, AllProper, Ready, Merged, Rehashed, Dirty}
 use Rattle.aig.specs.Invariant.{Proper}
-use Rattle.aig.specs.Pairs.{Folds, zero_first, one_first, same, opposed}
+use Rattle.aig.specs.Pairs.{Folds, zero_first, one_first, same, opposed, at, Known, folds, found}
 use Rattle.aig.specs.Algebras.{Algebra, Of, Carrier, Respects, net_at}
-use Rattle.aig.proofs.Orders.{Ordered}
+use Rattle.aig.proofs.Orders.{Ordered, either, of_both}
 use Rattle.aig.specs.declared.vertex.Vertex.{Vertex}
 use Rattle.aig.proofs.Nets.{half_carried, value_carried, value_twice}
 use Rattle.aig.proofs.Counts.{standing_le}
@@ -23,6 +23,18 @@ survivor_low {n} {t} s x h = omega (arith, half_carried (link_of t (x / 2)) x, l
 
 pub survivor_value : {n : ℕ} {t : List Vertex} {X : Type 0} (A : Algebra X) (ρ : ℕ → X) → Respects A n ρ t → (x : ℕ) → x / 2 < length t → net_at A ρ (survivor_of t x) ≡ net_at A ρ x
 survivor_value {n} {t} A ρ s x h = sym (value_carried A ρ (link_of t (x / 2)) x) ∙ ap (flip A.opposite (x % 2)) (sym (s.links (x / 2) h))
+
+-- a pair has the AND of the two nets whose survivors it is
+pub pair_both : {n : ℕ} {t : List Vertex} {X : Type 0} (A : Algebra X) (ρ : ℕ → X) → Respects A n ρ t → (x y : ℕ) → x / 2 < length t → y / 2 < length t
+    → {a b : ℕ} → Ordered (survivor_of t x) (survivor_of t y) a b → A.both (net_at A ρ a) (net_at A ρ b) ≡ A.both (net_at A ρ x) (net_at A ρ y)
+pair_both {n} {t} {X} A ρ s x y hx hy {a} {b} o =
+    let V : ℕ → X = net_at A ρ in
+    let vx : V (survivor_of t x) ≡ V x = survivor_value A ρ s x hx in
+    let vy : V (survivor_of t y) ≡ V y = survivor_value A ρ s y hy in
+    elim (either o) [
+      | inl e ↦ ap (λ (v : X). A.both v (V b)) (ap V e.0 ∙ vx) ∙ ap (A.both (V x)) (ap V e.1 ∙ vy)
+      | inr e ↦ A.swapped (V a) (V b) ∙ ap (λ (v : X). A.both v (V a)) (ap V e.1 ∙ vx) ∙ ap (A.both (V x)) (ap V e.0 ∙ vy)
+    ]
 
 -- ---- a fold
 
@@ -60,9 +72,6 @@ module _ {n : ℕ} {t : List Vertex} {w : ℕ} (d : Dirty n t w) where
   zero_stands : Stands t 0
   zero_stands = elim (shape.linked 0 (omega (arith, d.stale.inside))) [ inl e ↦ e | inr p ↦ absurd (omega (arith, p.0)) ]
 
-  pub dirty_less : standing t (length t) < standing t (length t) + 1
-  dirty_less = omega arith
-
   -- `w` may be merged into an earlier vertex that stands
   pub into_ready : (net : ℕ) → net / 2 < w → Stands t (net / 2) → Ready n t net w
   into_ready net h s = record {
@@ -88,52 +97,27 @@ module _ {n : ℕ} {t : List Vertex} {w : ℕ} (d : Dirty n t w) where
   }
 
   module _ {a b : ℕ} (o : Ordered (survivor_of t (left_of t w)) (survivor_of t (right_of t w)) a b) where
-    first_both : (P : ℕ → Type 0) → P (survivor_of t (left_of t w)) → P (survivor_of t (right_of t w)) → P a
-    first_both P p q = elim o.either [ inl e ↦ subst P (sym e.0) p | inr e ↦ subst P (sym e.0) q ]
-
-    second_both : (P : ℕ → Type 0) → P (survivor_of t (left_of t w)) → P (survivor_of t (right_of t w)) → P b
-    second_both P p q = elim o.either [ inl e ↦ subst P (sym e.1) q | inr e ↦ subst P (sym e.1) p ]
-
     low_left : survivor_of t (left_of t w) / 2 < w
     low_left = let p = survivor_low shape (left_of t w) left_in in let q = operands.0 in omega arith
 
     low_right : survivor_of t (right_of t w) / 2 < w
     low_right = let p = survivor_low shape (right_of t w) right_in in let q = operands.1 in omega arith
 
-    pub first_low : a / 2 < w
-    first_low = first_both (λ x. x / 2 < w) low_left low_right
+    pair_low : (a / 2 < w) × (b / 2 < w)
+    pair_low = of_both o (λ x. x / 2 < w) low_left low_right
 
-    pub second_low : b / 2 < w
-    second_low = second_both (λ x. x / 2 < w) low_left low_right
-
-    pub first_stands : Stands t (a / 2)
-    first_stands = first_both (λ x. Stands t (x / 2)) (survivor_stands shape (left_of t w) left_in) (survivor_stands shape (right_of t w) right_in)
-
-    pub second_stands : Stands t (b / 2)
-    second_stands = second_both (λ x. Stands t (x / 2)) (survivor_stands shape (left_of t w) left_in) (survivor_stands shape (right_of t w) right_in)
+    pair_stands : Stands t (a / 2) × Stands t (b / 2)
+    pair_stands = of_both o (λ x. Stands t (x / 2)) (survivor_stands shape (left_of t w) left_in) (survivor_stands shape (right_of t w) right_in)
 
     pub pair_value : {X : Type 0} (A : Algebra X) (ρ : ℕ → X) → Respects A n ρ t → ρ w ≡ A.both (net_at A ρ a) (net_at A ρ b)
-    pair_value {X} A ρ s =
-        let l = survivor_value A ρ s (left_of t w) left_in in
-        let r = survivor_value A ρ s (right_of t w) right_in in
-        let g : ρ w ≡ A.both (net_at A ρ (survivor_of t (left_of t w))) (net_at A ρ (survivor_of t (right_of t w))) =
-        s.gates w d.stale.gate d.stale.inside
-        ∙ ap (λ (v : X). A.both v (net_at A ρ (right_of t w))) (sym l)
-        ∙ ap (λ (v : X). A.both (net_at A ρ (survivor_of t (left_of t w))) v) (sym r) in
-        elim o.either [
-          | inl e ↦ g ∙ ap (λ (k : ℕ). A.both (net_at A ρ k) (net_at A ρ (survivor_of t (right_of t w)))) (sym e.0)
-              ∙ ap (λ (k : ℕ). A.both (net_at A ρ a) (net_at A ρ k)) (sym e.1)
-          | inr e ↦ g ∙ A.swapped (net_at A ρ (survivor_of t (left_of t w))) (net_at A ρ (survivor_of t (right_of t w)))
-              ∙ ap (λ (k : ℕ). A.both (net_at A ρ k) (net_at A ρ (survivor_of t (left_of t w)))) (sym e.0)
-              ∙ ap (λ (k : ℕ). A.both (net_at A ρ a) (net_at A ρ k)) (sym e.1)
-        ]
+    pair_value A ρ s = s.gates w d.stale.gate d.stale.inside ∙ sym (pair_both A ρ s (left_of t w) (right_of t w) left_in right_in o)
 
     -- the pair folds
     fold_low : (net : ℕ) → Folds a b net → net / 2 < w
-    fold_low net f = fold_vertex (λ v. v < w) a b net f (omega (arith, first_low)) first_low second_low
+    fold_low net f = fold_vertex (λ v. v < w) a b net f (omega (arith, pair_low.0)) pair_low.0 pair_low.1
 
     pub fold_ready : (net : ℕ) → Folds a b net → Ready n t net w
-    fold_ready net f = into_ready net (fold_low net f) (fold_vertex (λ v. Stands t v) a b net f zero_stands first_stands second_stands)
+    fold_ready net f = into_ready net (fold_low net f) (fold_vertex (λ v. Stands t v) a b net f zero_stands pair_stands.0 pair_stands.1)
 
     pub fold_done : {u : List Vertex} (net : ℕ) → Folds a b net → Merged n t net w u → Rehashed n t w u
     fold_done net f m = into_done net (fold_low net f) (λ c A ρ s. fold_value A ρ s.base a b net f ∙ sym (pair_value A ρ s)) m
@@ -161,8 +145,8 @@ module _ {n : ℕ} {t : List Vertex} {w : ℕ} (d : Dirty n t w) where
         gate = gate;
         inside = inside;
         stands = stands;
-        first = subst (λ (k : ℕ). Stands t (k / 2)) (sym left) first_stands;
-        second = subst (λ (k : ℕ). Stands t (k / 2)) (sym right) second_stands;
+        first = subst (λ (k : ℕ). Stands t (k / 2)) (sym left) pair_stands.0;
+        second = subst (λ (k : ℕ). Stands t (k / 2)) (sym right) pair_stands.1;
       }
 
       -- `w` itself has not the pair, since it reads what does not stand
@@ -171,6 +155,15 @@ module _ {n : ℕ} {t : List Vertex} {w : ℕ} (d : Dirty n t w) where
         | inl p ↦ d.stale.lost (subst (λ (k : ℕ). Stands t k) p (subst (λ (k : ℕ). Stands t (left_of t k / 2)) e twin_clean.first))
         | inr p ↦ d.stale.lost (subst (λ (k : ℕ). Stands t k) p (subst (λ (k : ℕ). Stands t (right_of t k / 2)) e twin_clean.second))
       ]
+
+    -- the pair is known, by a net of an earlier vertex
+    pub known_ready : (net : ℕ) → Known n t a b net → net / 2 < w → Ready n t net w
+    known_ready _ (folds net f) h = fold_ready net f
+    known_ready _ (found _ p (at v s l r)) h = twin_ready s.after s.inside s.stands l r (omega arith)
+
+    pub known_done : {u : List Vertex} (net : ℕ) → Known n t a b net → net / 2 < w → Merged n t net w u → Rehashed n t w u
+    known_done _ (folds net f) h m = fold_done net f m
+    known_done _ (found _ p (at v s l r)) h m = twin_done s.after s.inside s.stands l r (omega arith) m
 
     -- ---- the pair written
 
@@ -207,7 +200,7 @@ module _ {n : ℕ} {t : List Vertex} {w : ℕ} (d : Dirty n t w) where
       ];
       earlier = λ v gt h. elim (cases_eq v w) [
         | inl e ↦ subst (λ (k : ℕ). (left_of written k / 2 < k) × (right_of written k / 2 < k)) (sym e)
-            (subst (λ (l : ℕ). l / 2 < w) (sym (ap (λ (x : Vertex). x.left.0) at_w)) first_low, subst (λ (l : ℕ). l / 2 < w) (sym (ap (λ (x : Vertex). x.right.0) at_w)) second_low)
+            (subst (λ (l : ℕ). l / 2 < w) (sym (ap (λ (x : Vertex). x.left.0) at_w)) pair_low.0, subst (λ (l : ℕ). l / 2 < w) (sym (ap (λ (x : Vertex). x.right.0) at_w)) pair_low.1)
         | inr e ↦ (let p = shape.earlier v gt (omega (arith, written_long)) in
             (subst (λ (x : Vertex). x.left.0 / 2 < v) (sym (off_w v e)) p.0, subst (λ (x : Vertex). x.right.0 / 2 < v) (sym (off_w v e)) p.1))
       ];
@@ -256,8 +249,8 @@ module _ {n : ℕ} {t : List Vertex} {w : ℕ} (d : Dirty n t w) where
     pub written_stale : (x v : ℕ) → Stale n written x v → Stale n t x v × (x ≡ w → ⊥)
     written_stale x v e = elim (cases_eq x w) [
       | inl p ↦ absurd (elim e.reads [
-        | inl r ↦ e.lost (to_stands v (subst (λ (k : ℕ). Stands t k) (ap (λ (k : ℕ). k / 2) (sym (ap (left_of written) p ∙ ap (λ (x : Vertex). x.left.0) at_w)) ∙ r) first_stands))
-        | inr r ↦ e.lost (to_stands v (subst (λ (k : ℕ). Stands t k) (ap (λ (k : ℕ). k / 2) (sym (ap (right_of written) p ∙ ap (λ (x : Vertex). x.right.0) at_w)) ∙ r) second_stands))
+        | inl r ↦ e.lost (to_stands v (subst (λ (k : ℕ). Stands t k) (ap (λ (k : ℕ). k / 2) (sym (ap (left_of written) p ∙ ap (λ (x : Vertex). x.left.0) at_w)) ∙ r) pair_stands.0))
+        | inr r ↦ e.lost (to_stands v (subst (λ (k : ℕ). Stands t k) (ap (λ (k : ℕ). k / 2) (sym (ap (right_of written) p ∙ ap (λ (x : Vertex). x.right.0) at_w)) ∙ r) pair_stands.1))
       ])
       | inr p ↦ (
         record {
@@ -307,6 +300,9 @@ module _ {n : ℕ} {t : List Vertex} {w : ℕ} (d : Dirty n t w) where
       follows = λ c A ρ s. written_respects A ρ s;
     }
 
+    pub written_less : standing written (length written) ≤ standing t (length t)
+    written_less = subst (λ (m : ℕ). standing written m ≤ standing t (length t)) (sym written_long) (standing_le t written (length t) written_falls)
+
     -- a later vertex has the pair
     module _ {x : ℕ} (gate : n < x) (inside : x < length t) (stands : Stands t x) (left : left_of t x ≡ a) (right : right_of t x ≡ b) (later : w ≤ x) where
       after : w < x
@@ -324,9 +320,6 @@ module _ {n : ℕ} {t : List Vertex} {w : ℕ} (d : Dirty n t w) where
         proper = written_proper p;
       }
 
-      pub later_less : standing written (length written) ≤ standing t (length t)
-      later_less = subst (λ (m : ℕ). standing written m ≤ standing t (length t)) (sym written_long) (standing_le t written (length t) written_falls)
-
       pub later_done : {u : List Vertex} → Merged n written (2 * w) x u → Rehashed n t w u
       later_done {u} m = record {
         step = record {
@@ -339,3 +332,16 @@ module _ {n : ℕ} {t : List Vertex} {w : ℕ} (d : Dirty n t w) where
         stale = λ y v e. written_stale y v (m.stale y v e);
         follows = λ c A ρ s. m.forced c A ρ (written_respects A ρ s) (value_twice A ρ w ∙ sym (twin_value gate inside stands left right A ρ s));
       }
+
+    -- the pair is known, by the net of a later vertex
+    pub after_ready : (net : ℕ) → Known n t a b net → w ≤ net / 2 → Ready n written (2 * w) (net / 2)
+    after_ready _ (folds net f) h = let k = fold_low net f in absurd (omega arith)
+    after_ready _ (found _ p (at v s l r)) h =
+        let half : v ≡ 2 * v / 2 = omega arith in
+        subst (λ (k : ℕ). Ready n written (2 * w) k) half (later_ready s.after s.inside s.stands l r (omega arith) p)
+
+    pub after_done : {u : List Vertex} (net : ℕ) → Known n t a b net → w ≤ net / 2 → Merged n written (2 * w) (net / 2) u → Rehashed n t w u
+    after_done _ (folds net f) h m = let k = fold_low net f in absurd (omega arith)
+    after_done {u} _ (found _ p (at v s l r)) h m =
+        let half : 2 * v / 2 ≡ v = omega arith in
+        later_done s.after s.inside s.stands l r (omega arith) (subst (λ (k : ℕ). Merged n written (2 * w) k u) half m)

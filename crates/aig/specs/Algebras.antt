@@ -1,6 +1,7 @@
 -- Algebras with the laws by which an AND folds. What holds of a graph in every one of them follows from these laws, from
 -- the graph's own ANDs and links, and from nothing else: so it is forced.
-use Rattle.std.specs.Prelude.{◌≡◌, ℕ, ◌<◌, Bool, true, false, not, ◌&&◌, List, length}
+use Rattle.std.specs.Prelude.{◌≡◌, ℕ, ◌<◌, Bool, false, not, ◌&&◌, List, length}
+use Rattle.std.proofs.Math.Bool.{not-not, and_self, and-not_self, and_comm}
 use Rattle.aig.specs.declared.vertex.Vertex.{Vertex}
 use Rattle.aig.specs.Nets.{net_in}
 use Rattle.aig.specs.Table.{left_of, right_of, link_of}
@@ -43,34 +44,16 @@ Follows n t t' = (c : Carrier) (A : Algebra (Of c)) (ρ : ℕ → Of c) → Resp
 abbrev pub Forced : ℕ → List Vertex → ℕ → ℕ → List Vertex → Type 0
 Forced n t keep gone t' = (c : Carrier) (A : Algebra (Of c)) (ρ : ℕ → Of c) → Respects A n ρ t → net_at A ρ keep ≡ ρ gone → Respects A n ρ t'
 
-pub not_not : (x : Bool) → not (not x) ≡ x
-not_not true = λ i. true
-not_not false = λ i. false
-
-pub and_self : (x : Bool) → (x && x) ≡ x
-and_self true = λ i. true
-and_self false = λ i. false
-
-pub and_not : (x : Bool) → (x && not x) ≡ false
-and_not true = λ i. false
-and_not false = λ i. false
-
-pub and_swap : (x y : Bool) → (x && y) ≡ (y && x)
-and_swap true true = λ i. true
-and_swap true false = λ i. false
-and_swap false true = λ i. false
-and_swap false false = λ i. false
-
 -- the bits are such an algebra
 abbrev pub booleans : Algebra Bool
 booleans = record {
   bottom = false;
   opposite = not;
   both = ◌&&◌;
-  opposite_twice = not_not;
+  opposite_twice = not-not;
   with_bottom = λ x i. false;
   with_top = λ x i. x;
   with_itself = and_self;
-  with_opposite = and_not;
-  swapped = and_swap;
+  with_opposite = and-not_self;
+  swapped = and_comm;
 }

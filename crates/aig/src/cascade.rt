@@ -1,11 +1,10 @@
 //! Merging: a merge relinks all that pointed at the merged vertex and rehashes its readers; a rehash that meets a fold or
 //! a match merges again. The number of standing vertices falls at each merge, so this ends.
-ghost use Rattle.std.specs.Prelude.{◌≡◌, ℕ, ◌/◌, ◌^◌, ◌<◌, T, ◌⊎◌, length};
-ghost use Rattle.aig.specs.Table.{left_of, right_of, Stands};
 ghost use Rattle.aig.specs.Cascade.{Relinked, Ready, Merged, Rehashed, Dirty};
 
 use crate::net::Net;
-use crate::pairs::{find, fold, ordered, survivor};
+use crate::pair::Pair;
+use crate::table::Table;
 use crate::vertex::Vertex;
 
 /// Takes each link at the vertex `gone` to `keep`, inverted where the link was.
@@ -13,22 +12,13 @@ pub fn relink(table: &mut [Vertex], keep: Net, gone: usize)
     ensures { Relinked table.old keep.0 gone table.new }
 {
     for vertex in table.iter_mut() {
-        if vertex.link.0 as usize / 2 == gone {
+        if vertex.link.vertex() == gone {
             vertex.link = keep.carried(vertex.link);
         }
     }
 }
 
-/// Whether the vertex `w` stands and reads the vertex `v`.
-pub fn reads(table: &[Vertex], w: usize, v: usize) -> bool
-    requires { (w < length table.now) × (w < 2 ^ 16) }
-    ensures yes { T result → Stands table.now w × ((left_of table.now w / 2 ≡ v) ⊎ (right_of table.now w / 2 ≡ v)) }
-    ensures no { Stands table.now w → (left_of table.now w / 2 ≡ v) ⊎ (right_of table.now w / 2 ≡ v) → T result }
-{
-    let vertex = table[w];
-    vertex.link.0 as usize == 2 * w
-        && (vertex.left.0 as usize / 2 == v || vertex.right.0 as usize / 2 == v)
-}
+// `merge` and `rehash` take the inputs beside the slice: a `Table` only lends its vertices, and these two write them.
 
 /// Merges the vertex `gone` into the net `keep`, and rehashes each vertex that reads it.
 #[cycle(merge_rehash)]
@@ -37,8 +27,10 @@ pub fn merge(table: &mut [Vertex], inputs: usize, keep: Net, gone: usize)
     ensures { Merged inputs table.old keep.0 gone table.new }
 {
     relink(table, keep, gone);
+    // A loop over the places: a rehash changes later vertices while it goes.
     for w in gone + 1..table.len() {
-        if reads(table, w, gone) {
+        let vertex = table[w];
+        if vertex.stands(w) && vertex.reads(gone) {
             rehash(table, inputs, w);
         }
     }
@@ -50,28 +42,18 @@ pub fn rehash(table: &mut [Vertex], inputs: usize, w: usize)
     requires { Dirty inputs table.old w }
     ensures { Rehashed inputs table.old w table.new }
 {
-    let left = survivor(table, table[w].left);
-    let right = survivor(table, table[w].right);
-    let (a, b) = ordered(left, right);
-    if let Some(net) = fold(a, b) {
-        return merge(table, inputs, net, w);
-    }
-    match find(table, inputs, a, b) {
-        Some(x) if x < w => merge(table, inputs, Net(2 * x as u16), w),
-        Some(x) => {
-            table[w] = Vertex {
-                left: a,
-                right: b,
-                ..table[w]
-            };
-            merge(table, inputs, Net(2 * w as u16), x);
+    let vertex = table[w];
+    let before = Table {
+        inputs,
+        vertices: table,
+    };
+    let pair = Pair::new(before.survivor(vertex.left), before.survivor(vertex.right));
+    match before.lookup(pair) {
+        Some(net) if net.vertex() < w => merge(table, inputs, net, w),
+        Some(net) => {
+            table[w] = vertex.with(pair);
+            merge(table, inputs, Net::of(w), net.vertex());
         }
-        None => {
-            table[w] = Vertex {
-                left: a,
-                right: b,
-                ..table[w]
-            };
-        }
+        None => table[w] = vertex.with(pair),
     }
 }

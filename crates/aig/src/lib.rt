@@ -3,10 +3,10 @@
 
 mod cascade;
 mod examples;
-mod first_line;
 mod graph;
 mod net;
-mod pairs;
+mod pair;
+mod table;
 mod values;
 mod vertex;
 

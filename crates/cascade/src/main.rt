@@ -13,35 +13,43 @@ use std::alloc::Global;
 use std::time::Instant;
 use std::{env, io};
 
+/// The most inputs of a graph whose nets are compared by trying each code.
+const MOST_INPUTS: usize = 16;
+/// The most vertices that a graph has places for.
+const MOST_VERTICES: usize = 4096;
+/// The inputs of the full table.
+const FULL_INPUTS: usize = 8;
+
 /// Whether two nets agree under every input code, found by trying each.
 fn agree(graph: &Graph, x: Net, y: Net, words: &mut [u64]) -> bool
-    requires narrow { inputs_of graph.now ≤ 16 }
+    requires narrow { inputs_of graph.now ≤ MOST_INPUTS }
     requires first { InUse graph.now x }
     requires second { InUse graph.now y }
     requires enough { used graph.now ≤ length words.old }
     ensures { T result → (code : ℕ) → value (inputs_of graph.now) (vertices graph.now) x.0 code ≡ value (inputs_of graph.now) (vertices graph.now) y.0 code }
 {
-    for code in 0..1u64 << graph.inputs() {
-        if graph.value(x, code, words) != graph.value(y, code, words) {
-            return false;
-        }
-    }
-    true
+    (0..1u64 << graph.inputs()).all(|code| {
+        graph.value(x, code, words) == graph.value(y, code, words)
+    })
 }
 
-/// Merges two nets of a graph with at most 16 inputs if they agree under every input code.
+/// Merges two nets of a graph with at most `MOST_INPUTS` inputs if they agree under every input code.
 fn merge_if_equal(graph: &mut Graph, x: Net, y: Net, words: &mut [u64]) -> bool
     ensures { T result → survivor_of (vertices graph.new) x.0 ≡ survivor_of (vertices graph.new) y.0 }
 {
     let used = graph.used();
-    if graph.inputs() > 16 || x.vertex() >= used || y.vertex() >= used || words.len() < used {
+    if graph.inputs() > MOST_INPUTS
+        || x.vertex() >= used
+        || y.vertex() >= used
+        || words.len() < used
+    {
         return false;
     }
-    if !agree(graph, x, y, words) {
-        return false;
+    let equal = agree(graph, x, y, words);
+    if equal {
+        graph.join(x, y);
     }
-    graph.join(x, y);
-    true
+    equal
 }
 
 /// A gate, or none where an operand is not in use or fewer than three vertices are left.
@@ -53,19 +61,26 @@ fn gate(graph: &mut Graph, kind: Kind, a: Net, b: Net, c: Net) -> Option<Net> {
     Some(graph.gate(kind, a, b, c))
 }
 
+/// Two forms of the XOR of the first two inputs.
+fn two_forms(graph: &mut Graph) -> Option<(Net, Net)> {
+    let (a, b) = (Net::of(1), Net::of(2));
+    let xor = gate(graph, Kind::Xor, a, b, Net::FALSE)?;
+    let mux = gate(graph, Kind::Mux, a, b.inverse(), b)?;
+    Some((xor, mux))
+}
+
 /// Two forms of XOR, and above each the same chain of NANDs, as long as the table allows. Answers the two forms.
 fn two_chains(graph: &mut Graph) -> Option<(Net, Net)> {
-    let first = gate(graph, Kind::Xor, Net(2), Net(4), Net(0))?;
-    let second = gate(graph, Kind::Mux, Net(2), Net(5), Net(4))?;
+    let (first, second) = two_forms(graph)?;
     let mut left = first;
     let mut right = second;
-    for step in 0..4096u16 {
-        let input = Net(2 + 2 * (step % 8));
-        let Some(next) = gate(graph, Kind::Nand, left, input, Net(0)) else {
+    for step in 0..MOST_VERTICES {
+        let input = Net::of(1 + step % FULL_INPUTS);
+        let Some(next) = gate(graph, Kind::Nand, left, input, Net::FALSE) else {
             break;
         };
         left = next;
-        let Some(next) = gate(graph, Kind::Nand, right, input, Net(0)) else {
+        let Some(next) = gate(graph, Kind::Nand, right, input, Net::FALSE) else {
             break;
         };
         right = next;
@@ -75,39 +90,41 @@ fn two_chains(graph: &mut Graph) -> Option<(Net, Net)> {
 
 /// How many vertices stand.
 fn standing(graph: &Graph) -> usize {
-    let mut count = 0usize;
-    for v in 0..graph.used().min(4096) {
-        let net = Net(2 * v as u16);
-        if net.vertex() < graph.used() && graph.survivor(net).0 == net.0 {
-            count = count.saturating_add(1);
-        }
+    (0..graph.used().min(MOST_VERTICES))
+        .filter(|&v| graph.vertex(v).stands(v))
+        .count()
+}
+
+/// The worked merge: the two forms of XOR, whether they were merged, and the survivor of net 16.
+fn worked_merge(graph: &mut Graph, words: &mut [u64]) -> Option<(Net, Net, bool, Net)> {
+    let (a, b) = (Net::of(1), Net::of(2));
+    gate(graph, Kind::And, a, b, Net::FALSE)?;
+    gate(graph, Kind::Or, a, b, Net::FALSE)?;
+    let (xor, mux) = two_forms(graph)?;
+    let merged = merge_if_equal(graph, xor, mux, words);
+    let net = Net::of(8);
+    if net.vertex() >= graph.used() {
+        return None;
     }
-    count
+    Some((xor, mux, merged, graph.survivor(net)))
 }
 
 /// With two inputs, the two forms of XOR are nets 10 and 17; once merged, net 16 has survivor 11.
 fn worked(rt: HostRuntime, words: &mut [u64]) -> io::Result<()> {
-    let mut graph = Graph::new(rt.alloc(), 2, 4096)?;
-    let _ = gate(&mut graph, Kind::And, Net(2), Net(4), Net(0));
-    let _ = gate(&mut graph, Kind::Or, Net(2), Net(4), Net(0));
-    let xor = gate(&mut graph, Kind::Xor, Net(2), Net(4), Net(0)).unwrap_or(Net(0));
-    let mux = gate(&mut graph, Kind::Mux, Net(2), Net(5), Net(4)).unwrap_or(Net(0));
-    let merged = merge_if_equal(&mut graph, xor, mux, words);
-    if graph.used() <= 8 {
+    let mut graph = Graph::new(rt.alloc(), 2, MOST_VERTICES)?;
+    let Some((xor, mux, merged, survivor)) = worked_merge(&mut graph, words) else {
         return println!(rt; "the worked run made too few vertices");
-    }
-    let survivor = graph.survivor(Net(16)).0;
-    println!(rt;
-        "nets {} and {}: merged {merged}, net 16 has survivor {survivor}",
-        xor.0, mux.0
-    )
+    };
+    println!(rt; "nets {xor} and {mux}: merged {merged}, net 16 has survivor {survivor}")
 }
 
 /// A full table, and the cascade that one merge sets off in it.
 fn full(rt: HostRuntime, words: &mut [u64], timed: bool) -> io::Result<()> {
-    let mut graph = Graph::new(rt.alloc(), 8, 4096)?;
+    let mut graph = Graph::new(rt.alloc(), FULL_INPUTS, MOST_VERTICES)?;
     let start = Instant::now(&rt)?;
-    let (first, second) = two_chains(&mut graph).unwrap_or((Net(0), Net(0)));
+    let Some((first, second)) = two_chains(&mut graph) else {
+        return println!(rt; "the full table made too few vertices");
+    };
     let built = start.elapsed(&rt)?.as_micros();
     let before = standing(&graph);
     println!(rt; "vertices {} standing {before}", graph.used())?;
@@ -122,10 +139,8 @@ fn full(rt: HostRuntime, words: &mut [u64], timed: bool) -> io::Result<()> {
 }
 
 fn main(rt: HostRuntime) -> io::Result<()> {
-    let mut arguments = env::args(&rt)?;
-    let _ = arguments.next();
-    let timed = arguments.next().is_some();
-    let mut words = vec![in rt.alloc(); 0u64; 4096]?;
+    let timed = env::args(&rt)?.nth(1).is_some();
+    let mut words = vec![in rt.alloc(); 0u64; MOST_VERTICES]?;
     worked(rt, &mut words)?;
     full(rt, &mut words, timed)
 }

@@ -6,9 +6,8 @@ ghost use Rattle.aig.specs.Ands.{Anded};
 ghost use Rattle.aig.specs.Graphs.{inputs_of, places_of, vertices, used, InUse, SameBounds};
 
 use super::Graph;
-use crate::first_line::lookup;
 use crate::net::Net;
-use crate::pairs::{ordered, survivor};
+use crate::pair::Pair;
 use crate::vertex::Vertex;
 
 impl Graph {
@@ -20,29 +19,27 @@ impl Graph {
         ensures made { Anded (inputs_of self.old) (vertices self.old) x.0 y.0 result.0 (vertices self.new) }
         ensures same { SameBounds self.old self.new }
     {
-        let left = survivor(&self.table, x);
-        let right = survivor(&self.table, y);
-        let (a, b) = ordered(left, right);
-        match lookup(&self.table, self.inputs, a, b) {
+        let pair = Pair::new(self.survivor(x), self.survivor(y));
+        match self.as_table().lookup(pair) {
             Some(net) => net,
-            None => self.grow(a, b),
+            None => self.grow(pair),
         }
     }
 
     /// Adds a vertex for a pair that no vertex has.
-    fn grow(&mut self, a: Net, b: Net) -> Net
-        requires fresh { Unknown (inputs_of self.old) (vertices self.old) a.0 b.0 }
-        requires first { (InUse self.old a) × (Stands (vertices self.old) (a.0 / 2)) }
-        requires second { (InUse self.old b) × (Stands (vertices self.old) (b.0 / 2)) }
+    fn grow(&mut self, pair: Pair) -> Net
+        requires fresh { Unknown (inputs_of self.old) (vertices self.old) pair.low.0 pair.high.0 }
+        requires first { (InUse self.old pair.low) × (Stands (vertices self.old) (pair.low.0 / 2)) }
+        requires second { (InUse self.old pair.high) × (Stands (vertices self.old) (pair.high.0 / 2)) }
         requires room { used self.old < places_of self.old }
         ensures net { result.0 ≡ 2 * used self.old }
-        ensures table { vertices self.new ≡ vertices self.old ++ vertex a.0 b.0 (2 * used self.old) ∷ [] }
+        ensures table { vertices self.new ≡ vertices self.old ++ vertex pair.low.0 pair.high.0 (2 * used self.old) ∷ [] }
         ensures same { SameBounds self.old self.new }
     {
-        let net = Net(2 * self.table.len() as u16);
+        let net = Net::of(self.table.len());
         self.table.push_reserved(Vertex {
-            left: a,
-            right: b,
+            left: pair.low,
+            right: pair.high,
             link: net,
         });
         net

@@ -6,7 +6,7 @@ ghost use Rattle.aig.specs.Graphs.{inputs_of, vertices, SameBounds};
 use super::Graph;
 use crate::cascade::merge;
 use crate::net::Net;
-use crate::pairs::{ordered, survivor};
+use crate::pair::Pair;
 
 impl Graph {
     /// Gives two nets that agree under every code one survivor: the later vertex joins the earlier.
@@ -15,10 +15,8 @@ impl Graph {
         ensures joined { Joined (inputs_of self.old) (vertices self.old) x.0 y.0 (vertices self.new) }
         ensures same { SameBounds self.old self.new }
     {
-        let left = survivor(&self.table, x);
-        let right = survivor(&self.table, y);
-        if left.0 != right.0 {
-            let (low, high) = ordered(left, right);
+        let Pair { low, high } = Pair::new(self.survivor(x), self.survivor(y));
+        if low != high {
             self.merge(low.carried(high), high.vertex());
         }
     }

@@ -1,7 +1,8 @@
 //! The graph: its inputs, its places and its table of vertices, with the properties that hold between calls.
-ghost use Rattle.std.specs.Prelude.{◌≤◌, length, vec_capacity};
+ghost use Rattle.std.specs.Prelude.{◌≡◌, ◌≤◌, length, vec_capacity};
 ghost use Rattle.aig.specs.Invariant.{InputsThere, LinksStand, ReadsEarlier, ReadsStanding, NoneFolds, NoTwins, LinksEqual};
 
+use crate::table::Table;
 use crate::vertex::Vertex;
 
 mod ands;
@@ -29,4 +30,19 @@ pub struct Graph {
     ghost proper: { NoneFolds inputs table.items },
     ghost unique: { NoTwins inputs table.items },
     ghost equal: { LinksEqual inputs table.items },
+}
+
+impl Graph {
+    ghost use Rattle.aig.specs.Graphs.{inputs_of, vertices};
+
+    /// The table, to be read.
+    fn as_table(&self) -> Table<'_>
+        ensures inputs { result.inputs ≡ inputs_of self.now }
+        ensures vertices { result.vertices.now ≡ vertices self.now }
+    {
+        Table {
+            inputs: self.inputs,
+            vertices: &self.table,
+        }
+    }
 }

@@ -30,11 +30,11 @@ impl Graph {
         ensures { IfOk result (λ g. (inputs_of g ≡ inputs) × (places_of g ≡ places) × (vertices g ≡ opening inputs)) }
     {
         let mut table = Vec::with_capacity(heap, places)?;
-        for v in 0..inputs + 1 {
+        for v in 0..=inputs {
             table.push_reserved(Vertex {
                 left: Net::FALSE,
                 right: Net::FALSE,
-                link: Net(2 * v as u16),
+                link: Net::of(v),
             });
         }
         Ok(Graph {

@@ -5,7 +5,6 @@ ghost use Rattle.aig.specs.Graphs.{inputs_of, places_of, vertices, used, InUse};
 
 use super::Graph;
 use crate::net::Net;
-use crate::pairs::survivor;
 use crate::vertex::Vertex;
 
 impl Graph {
@@ -43,6 +42,6 @@ impl Graph {
         requires { InUse self.now net }
         ensures { result.0 ≡ survivor_of (vertices self.now) net.0 }
     {
-        survivor(&self.table, net)
+        self.as_table().survivor(net)
     }
 }

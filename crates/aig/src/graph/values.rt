@@ -5,7 +5,7 @@ ghost use Rattle.aig.specs.Graphs.{inputs_of, vertices, used, InUse};
 
 use super::Graph;
 use crate::net::Net;
-use crate::values::{fill, net_bit};
+use crate::values::net_bit;
 
 impl Graph {
     /// The value of a net under a code, with a word of workspace for each vertex in use.
@@ -14,7 +14,7 @@ impl Graph {
         requires enough { used self.now ≤ length words.old }
         ensures { result ≡ value (inputs_of self.now) (vertices self.now) net.0 code }
     {
-        fill(&self.table, self.inputs, code, words);
+        self.as_table().fill(code, words);
         net_bit(words, net)
     }
 }

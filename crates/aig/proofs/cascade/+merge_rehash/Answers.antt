@@ -1,12 +1,12 @@
 -- What is left to show of `merge` and `rehash`, beyond what the search finds.
-use Rattle.std.proofs.Common.{◌+◌, List, sym, subst, arith}
+use Rattle.std.proofs.Common.{◌+◌, List, sym, subst, arith, rules}
 use Rattle.aig.specs.declared.vertex.Vertex.{Vertex}
-use Rattle.aig.proofs.Orders.{ordered_at, ordered_by}
+use Rattle.aig.proofs.Orders.{ordered_at}
 use Rattle.aig.proofs.Sweeps.{Sweeping}
 use Rattle.aig.proofs.Merging.{sweep_none, sweep_less, sweep_dirty, sweep_all, sweep_more, sweep_skip}
-use Rattle.aig.proofs.Rehashing.{fold_ready, fold_done, twin_ready, twin_done, alone_done, later_ready, later_less, later_done}
+use Rattle.aig.proofs.Rehashing.{known_ready, known_done, after_ready, written_less, after_done, alone_done}
 use Rattle.aig.proofs.cascade.+merge_rehash.Goals as goal
-use Rattle.aig.proofs.cascade.+merge_rehash.Goals.{merge-then-reads, merge-else-reads}
+use Rattle.aig.proofs.cascade.+merge_rehash.Goals.{merge-then-stands+then-reads, merge-else-stands, merge-else-stands-via-then-stands+else-reads, merge-else-stands-via-else-stands}
 
 pub merge-loop-w-init : goal.merge-loop-w-init
 merge-loop-w-init t c = sweep_none c.requires c.relink.ensures
@@ -14,47 +14,44 @@ merge-loop-w-init t c = sweep_none c.requires c.relink.ensures
 pub merge-rehash-requires : goal.merge-rehash-requires
 merge-rehash-requires t c =
     let less = sweep_less c.requires c.relink.ensures c.loop-w.invariant in
-    let e = c.if-reads.ensures.yes tt in
-    (omega (arith, c.decreases), sweep_dirty c.requires c.relink.ensures c.loop-w.invariant (omega arith) (omega arith) e.0 e.1)
+    (omega (arith, c.decreases), sweep_dirty c.requires c.relink.ensures c.loop-w.invariant (omega arith) (omega arith) (c.stands.ensures.0 c.if-stands.true) (c.reads.ensures.0 c.if-reads.true))
 
 pub merge-loop-w-preserved : goal.merge-loop-w-preserved
 merge-loop-w-preserved t c =
     let P : List Vertex → Type 0 = λ s. Sweeping c.args.inputs c.relink.new.table c.args.gone (c.loop-w.w + 1) s in
-    elim c.if-reads.branch [
-      | merge-then-reads w ↦ subst P (sym w.table-is) (sweep_more c.loop-w.invariant (omega arith) w.rehash.ensures)
-      | merge-else-reads w ↦ subst P (sym w.table-is) (sweep_skip c.loop-w.invariant (λ p e. w.if-reads.ensures.no p e))
+    elim c.if-stands.branch [
+      | merge-then-stands+then-reads w ↦ subst P (sym w.table-is) (sweep_more c.loop-w.invariant (omega arith) w.rehash.ensures)
+      | merge-else-stands w ↦ subst P (sym w.table-is) (elim w.else-stands.branch [
+        | merge-else-stands-via-then-stands+else-reads v ↦ sweep_skip c.loop-w.invariant (λ p e. search rules)
+        | merge-else-stands-via-else-stands v ↦ sweep_skip c.loop-w.invariant (λ p e. search rules)
+      ])
     ]
 
 pub merge-returns : goal.merge-returns
 merge-returns t c = sweep_all c.requires c.relink.ensures c.loop-w.invariant c.loop-w-test.false
 
 pub rehash-merge-requires : goal.rehash-merge-requires
-rehash-merge-requires t c = (omega (arith, c.decreases), fold_ready c.requires (ordered_at c.survivor-left.ensures c.survivor-right.ensures (ordered_by c.ordered.ensures.low c.ordered.ensures.high)) _ c.in-Some.ensures)
+rehash-merge-requires t c =
+    let pair = ordered_at c.survivor.ensures c.survivor-2.ensures c.new-pair.ensures.low c.new-pair.ensures.high in
+    (omega (arith, c.decreases), known_ready c.requires pair _ c.in-Some.ensures (omega arith))
 
 pub rehash-returns-in-Some : goal.rehash-returns-in-Some
-rehash-returns-in-Some t c = fold_done c.requires (ordered_at c.survivor-left.ensures c.survivor-right.ensures (ordered_by c.ordered.ensures.low c.ordered.ensures.high)) _ c.in-Some.ensures c.merge.ensures
-
-pub rehash-merge-requires-in-Some-find : goal.rehash-merge-requires-in-Some-find
-rehash-merge-requires-in-Some-find t c =
-    let e = c.in-Some-find.ensures in
-    (omega (arith, c.decreases), twin_ready c.requires (ordered_at c.survivor-left.ensures c.survivor-right.ensures (ordered_by c.ordered.ensures.low c.ordered.ensures.high)) e.0 e.1 e.2 e.3 e.4 c.if-x-w.true)
+rehash-returns-in-Some t c =
+    let pair = ordered_at c.survivor.ensures c.survivor-2.ensures c.new-pair.ensures.low c.new-pair.ensures.high in
+    known_done c.requires pair _ c.in-Some.ensures (omega arith) c.merge.ensures
 
 pub rehash-merge-requires-in-Some-2 : goal.rehash-merge-requires-in-Some-2
 rehash-merge-requires-in-Some-2 t c =
-    let e = c.in-Some-find.ensures in (
-      omega (arith, c.decreases, later_less c.requires (ordered_at c.survivor-left.ensures c.survivor-right.ensures (ordered_by c.ordered.ensures.low c.ordered.ensures.high)) e.0 e.1 e.2 e.3 e.4 c.if-x-w.false),
-      later_ready c.requires (ordered_at c.survivor-left.ensures c.survivor-right.ensures (ordered_by c.ordered.ensures.low c.ordered.ensures.high)) e.0 e.1 e.2 e.3 e.4 c.if-x-w.false c.in_default.ensures,
-    )
-
-pub rehash-returns-in-Some-find : goal.rehash-returns-in-Some-find
-rehash-returns-in-Some-find t c =
-    let e = c.in-Some-find.ensures in
-    twin_done c.requires (ordered_at c.survivor-left.ensures c.survivor-right.ensures (ordered_by c.ordered.ensures.low c.ordered.ensures.high)) e.0 e.1 e.2 e.3 e.4 c.if-x-w.true c.merge-in-Some-find.ensures
+    let pair = ordered_at c.survivor.ensures c.survivor-2.ensures c.new-pair.ensures.low c.new-pair.ensures.high in
+    let less = written_less c.requires pair in
+    (rw c.with.ensures (omega (arith, c.decreases, less)), rw (c.with.ensures, c.of.ensures, c.vertex-in-Some-2.ensures) (after_ready c.requires pair _ c.in-Some.ensures (omega arith)))
 
 pub rehash-returns-in-Some-2 : goal.rehash-returns-in-Some-2
 rehash-returns-in-Some-2 t c =
-    let e = c.in-Some-find.ensures in
-    later_done c.requires (ordered_at c.survivor-left.ensures c.survivor-right.ensures (ordered_by c.ordered.ensures.low c.ordered.ensures.high)) e.0 e.1 e.2 e.3 e.4 c.if-x-w.false c.merge-in-Some-2.ensures
+    let pair = ordered_at c.survivor.ensures c.survivor-2.ensures c.new-pair.ensures.low c.new-pair.ensures.high in
+    after_done c.requires pair _ c.in-Some.ensures (omega arith) (rw (c.with.ensures, c.of.ensures, c.vertex-in-Some-2.ensures) at c.merge-in-Some-2.ensures)
 
 pub rehash-returns-in-None : goal.rehash-returns-in-None
-rehash-returns-in-None t c = alone_done c.requires (ordered_at c.survivor-left.ensures c.survivor-right.ensures (ordered_by c.ordered.ensures.low c.ordered.ensures.high)) c.in_default.ensures c.in-None.ensures
+rehash-returns-in-None t c =
+    let pair = ordered_at c.survivor.ensures c.survivor-2.ensures c.new-pair.ensures.low c.new-pair.ensures.high in
+    rw c.with-in-None.ensures (alone_done c.requires pair c.in-None.ensures.proper (λ k g i s l r. c.in-None.ensures.absent k (record { after = g; inside = i; stands = s }) l r))

@@ -1,44 +1,32 @@
 -- What is left to show of `and`, beyond what the search finds.
-use Rattle.std.proofs.Common.{List, refl, subst}
-use Rattle.aig.specs.Pairs.{Known, Unknown}
-use Rattle.aig.specs.declared.vertex.Vertex.{Vertex}
 use Rattle.aig.proofs.Graphs.{whole_of}
-use Rattle.aig.proofs.Orders.{survivors_ordered}
-use Rattle.aig.proofs.Growth.{first_in, second_in, first_up, second_up, known_anded, grown_anded}
+use Rattle.aig.proofs.Orders.{ordered_at}
+use Rattle.aig.proofs.Growth.{pair_in, pair_up, known_anded, grown_anded}
 use Rattle.aig.proofs.graph.Graph.and.Goals as goal
 
 pub grow-requires : goal.grow-requires
 grow-requires c =
-    let g = c.args.self.now in
-    let w = whole_of g in
-    let o = survivors_ordered c.args.x.0 c.args.y.0 c.survivor-left.ensures c.deref.ensures.value c.survivor-right.ensures c.deref-2.ensures.value c.ordered.ensures.low c.ordered.ensures.high in
+    let w = whole_of c.args.self.now in
+    let pair = ordered_at c.survivor.ensures c.survivor-2.ensures c.new-pair.ensures.low c.new-pair.ensures.high in
+    let within = pair_in w _ _ c.requires.first c.requires.second pair in
+    let up = pair_up w _ _ c.requires.first c.requires.second pair in
     record {
-      fresh = subst (λ (t : List Vertex). Unknown g.inputs t c.ordered.result.0.0 c.ordered.result.1.0) c.deref-3.ensures.value c.in-None.ensures;
-      first = (first_in w _ _ c.requires.first c.requires.second o, first_up w _ _ c.requires.first c.requires.second o);
-      second = (second_in w _ _ c.requires.first c.requires.second o, second_up w _ _ c.requires.first c.requires.second o);
+      fresh = rw (c.as_table.ensures.inputs, c.as_table.ensures.vertices) at c.in-None.ensures;
+      first = (within.0, up.0);
+      second = (within.1, up.1);
       room = c.requires.room;
     }
 
-pub returns-in-Some : goal.returns-in-Some
-returns-in-Some c =
-    let g = c.args.self.now in
-    let o = survivors_ordered c.args.x.0 c.args.y.0 c.survivor-left.ensures c.deref.ensures.value c.survivor-right.ensures c.deref-2.ensures.value c.ordered.ensures.low c.ordered.ensures.high in
-    record {
-      made = known_anded (whole_of g) _ _ c.requires.first c.requires.second o _
-          (subst (λ (t : List Vertex). Known g.inputs t c.ordered.result.0.0 c.ordered.result.1.0 c.in-Some.net.0) c.deref-3.ensures.value c.in-Some.ensures);
-      same = record { inputs = refl; places = refl };
-    }
+pub returns-in-Some-clause-made : goal.returns-in-Some-clause-made
+returns-in-Some-clause-made c =
+    let pair = ordered_at c.survivor.ensures c.survivor-2.ensures c.new-pair.ensures.low c.new-pair.ensures.high in
+    known_anded (whole_of c.args.self.now) _ _ c.requires.first c.requires.second pair _ (rw (c.as_table.ensures.inputs, c.as_table.ensures.vertices) at c.in-Some.ensures)
 
-pub returns-in-None : goal.returns-in-None
-returns-in-None c =
-    let g = c.args.self.now in
-    let w = whole_of g in
-    let o = survivors_ordered c.args.x.0 c.args.y.0 c.survivor-left.ensures c.deref.ensures.value c.survivor-right.ensures c.deref-2.ensures.value c.ordered.ensures.low c.ordered.ensures.high in
-    let un = subst (λ (t : List Vertex). Unknown g.inputs t c.ordered.result.0.0 c.ordered.result.1.0) c.deref-3.ensures.value c.in-None.ensures in
-    record {
-      made = grown_anded w _ _ un
-          (first_in w _ _ c.requires.first c.requires.second o) (first_up w _ _ c.requires.first c.requires.second o)
-          (second_in w _ _ c.requires.first c.requires.second o) (second_up w _ _ c.requires.first c.requires.second o)
-          _ _ c.requires.first c.requires.second o _ _ c.grow.ensures.net c.grow.ensures.table;
-      same = c.grow.ensures.same;
-    }
+pub returns-in-None-clause-made : goal.returns-in-None-clause-made
+returns-in-None-clause-made c =
+    let w = whole_of c.args.self.now in
+    let pair = ordered_at c.survivor.ensures c.survivor-2.ensures c.new-pair.ensures.low c.new-pair.ensures.high in
+    let within = pair_in w _ _ c.requires.first c.requires.second pair in
+    let up = pair_up w _ _ c.requires.first c.requires.second pair in
+    grown_anded w _ _ (rw (c.as_table.ensures.inputs, c.as_table.ensures.vertices) at c.in-None.ensures) within.0 up.0 within.1 up.1
+    _ _ c.requires.first c.requires.second pair _ _ c.grow.ensures.net c.grow.ensures.table

@@ -2,7 +2,7 @@
 use Rattle.std.proofs.Common.{◌≡◌, ℕ, ◌<◌}
 use Rattle.aig.specs.Values.{vertex_value}
 use Rattle.aig.specs.Words.{held}
-use Rattle.aig.proofs.values.fill.Given as goal
+use Rattle.aig.proofs.table.Table.fill.Given as goal
 
 abbrev pub invariant-loop-v : goal.invariant-loop-v
-invariant-loop-v l = (k : ℕ) → k < l.v → held l.words k ≡ vertex_value l.inputs l.table l.code k
+invariant-loop-v l = (k : ℕ) → k < l.v → held l.words k ≡ vertex_value l.self.inputs l.self.vertices.now l.code k

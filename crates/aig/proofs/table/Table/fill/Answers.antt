@@ -1,12 +1,9 @@
 -- What is left to show of `fill`, beyond what the search finds.
 use Rattle.std.proofs.Common.{arith}
 use Rattle.aig.proofs.Filling.{filled_more}
-use Rattle.aig.proofs.values.fill.Goals as goal
+use Rattle.aig.proofs.table.Table.fill.Goals as goal
 
 pub loop-v-preserved : goal.loop-v-preserved
 loop-v-preserved c =
-    filled_more c.args.inputs c.args.table.now c.requires.earlier c.args.code c.loop-v.words c.loop-v.v c.vertex_bit.result
+    filled_more c.args.self.inputs c.args.self.vertices.now c.requires.earlier c.args.code c.loop-v.words c.loop-v.v c.vertex_bit.result
     (omega arith) (omega arith) c.vertex_bit.ensures c.loop-v.invariant
-
-pub returns : goal.returns
-returns c v h = c.loop-v.invariant v (omega arith)

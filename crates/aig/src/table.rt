@@ -1,0 +1,58 @@
+//! Tables as they are read: survivors, which vertex has a pair, and the lines of the AND.
+ghost use Rattle.std.specs.Prelude.{◌≡◌, ◌/◌, ◌^◌, ◌<◌, ◌≤◌, length, MatchOption};
+ghost use Rattle.aig.specs.Table.{survivor_of};
+ghost use Rattle.aig.specs.Pairs.{Absent, Present, Known, Unknown};
+
+use crate::net::Net;
+use crate::pair::Pair;
+use crate::vertex::Vertex;
+
+/// A table of vertices over so many inputs, to be read.
+#[derive(Clone, Copy)]
+pub struct Table<'a> {
+    pub inputs: usize,
+    pub vertices: &'a [Vertex],
+    ghost few: { inputs < 2 ^ 16 },
+    ghost small: { length vertices.now ≤ 4096 },
+}
+
+impl Table<'_> {
+    /// The net that stands for `net`.
+    pub fn survivor(self, net: Net) -> Net
+        requires { net.0 / 2 < length self.vertices.now }
+        ensures { result.0 ≡ survivor_of self.entry.vertices.now net.0 }
+    {
+        self.vertices[net.vertex()].link.carried(net)
+    }
+
+    /// The net of the standing vertex after the inputs that has the pair.
+    pub fn find(self, pair: Pair) -> Option<Net>
+        ensures { MatchOption result
+            (Absent self.entry.inputs self.entry.vertices.now pair.low.0 pair.high.0)
+            (λ net. Present self.entry.inputs self.entry.vertices.now pair.low.0 pair.high.0 net.0) }
+    {
+        self.vertices
+            .iter()
+            .enumerate()
+            .skip(self.inputs + 1)
+            .find(|(v, vertex)| vertex.has(pair) && vertex.stands(*v))
+            .map(|(v, _)| Net::of(v))
+    }
+
+    /// The net that is the AND of a pair by the first line that fits, or none where that is a new vertex's.
+    pub fn lookup(self, pair: Pair) -> Option<Net>
+        ensures { MatchOption result
+            (Unknown self.entry.inputs self.entry.vertices.now pair.low.0 pair.high.0)
+            (λ net. Known self.entry.inputs self.entry.vertices.now pair.low.0 pair.high.0 net.0) }
+    {
+        let found = self.find(pair);
+        match (pair.low, pair.high) {
+            (Net::FALSE, _) => Some(Net::FALSE),
+            (Net::TRUE, high) => Some(high),
+            (low, high) if low == high => Some(low),
+            (low, high) if high == low.inverse() => Some(Net::FALSE),
+            _ if found.is_some() => found,
+            _ => None,
+        }
+    }
+}
