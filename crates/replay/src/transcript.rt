@@ -66,7 +66,7 @@ impl Replay {
     fn answer(&mut self, rt: HostRuntime, command: Command) -> io::Result<()> {
         match self.make(rt.alloc(), command) {
             Ok(Answer::Opened) => print!(rt; "opened"),
-            Ok(Answer::Net(Net(net))) => print!(rt; "net {net}"),
+            Ok(Answer::Net(net)) => print!(rt; "net {net}"),
             Ok(Answer::Bit(bit)) => print!(rt; "{}", u8::from(bit)),
             Err(why) => print!(rt; "refused {why}"),
         }

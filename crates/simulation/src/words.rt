@@ -15,7 +15,7 @@ pub fn net_word(words: &[u64], net: Net) -> u64
     ensures { (k : ℕ) → k < 64 → bit result k ≡ net_value (lane words.now k) net.0 }
 {
     let word = words[net.vertex()];
-    if net.0 % 2 == 0 { word } else { !word }
+    if net.is_inverse() { !word } else { word }
 }
 
 /// The word of the vertex `v`, where `words` has those of earlier vertices.

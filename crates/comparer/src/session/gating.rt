@@ -31,7 +31,7 @@ impl Session {
         if read && net.vertex() >= self.graph.used() {
             return Err(Refusal::NetNotInUse);
         }
-        if !read && net.0 != 0 {
+        if !read && net != Net::FALSE {
             return Err(Refusal::UnusedOperand);
         }
         Ok(())
