@@ -16,8 +16,8 @@ returns-then-self-slots g c =
       keeps = c.requires;
       puts = (full, refl {a = bag});
       joins = (full, refl {a = bag});
-      refuses = λ _. (refl, refl);
-      stores = λ e. absurd (true≢false (sym e));
+      refuses = (refl, refl);
+      stores = tt;
       promise = ring_put (length xs) bag c.args.item false bag (full, refl);
     }
 
@@ -47,7 +47,7 @@ returns g c =
       keeps = still first n xs ys c.requires lt c.if-self-to_end.auto.slots;
       puts = put_queued (length xs) bag x true (take (n + 1) (around first ys)) (room, is);
       joins = (room, is);
-      refuses = λ e. absurd (true≢false e);
-      stores = λ _. wrote;
+      refuses = tt;
+      stores = wrote;
       promise = ring_put (length xs) bag x true (take (n + 1) (around first ys)) (room, is);
     }
