@@ -7,20 +7,17 @@ mod generator;
 mod model;
 
 use generator::Generator;
-use model::{Model, Order};
+use model::Model;
 use std::alloc::{AllocError, Global};
 use std::io;
 use worklist::heap::Heap;
 use worklist::items::Propagation;
-use worklist::list::WorkList;
+use worklist::list::{Full, WorkList};
 use worklist::ring::Ring;
 use worklist::through::{through_heap, through_ring};
 
-const NOTHING: Propagation = Propagation {
-    size: 0,
-    vertex: 0,
-    level: 0,
-};
+/// How many items are passed through each list.
+const PASSED: usize = 2000;
 
 /// How often each answer came, how often it was not the model's, and how many items wait at the end.
 #[derive(Clone, Copy, Default)]
@@ -45,31 +42,34 @@ fn put_one<W: WorkList<Propagation>>(
     ensures { W.WorkList.sound list.new slots.new }
 {
     let room = model.waiting() < slots.len();
-    let accepted = list.put(slots, item);
-    if accepted != room {
+    let answer = list.put(slots, item);
+    if answer.is_ok() != room {
         tally.wrong = tally.wrong.saturating_add(1);
     }
-    if accepted {
-        tally.put = tally.put.saturating_add(1);
-        model.put(item)?;
-    } else {
-        tally.refused = tally.refused.saturating_add(1);
+    match answer {
+        Ok(()) => {
+            tally.put = tally.put.saturating_add(1);
+            model.put(item)?;
+        }
+        Err(Full) => tally.refused = tally.refused.saturating_add(1),
     }
     Ok(())
 }
 
-/// Takes an item from the list and from the model.
-fn take_one<W: WorkList<Propagation>>(
+/// Takes an item from the list, and from the model the one that `choose` answers of those that wait.
+fn take_one<W: WorkList<Propagation>, F: Fn(&[Propagation]) -> Option<Propagation>>(
     list: &mut W,
     slots: &mut [Propagation],
     model: &mut Model,
+    choose: &F,
     tally: &mut Tally,
 )
-    requires { W.WorkList.sound list.old slots.old }
+    requires sound { W.WorkList.sound list.old slots.old }
+    requires callable { F.IsAlwaysCallable choose.now }
     ensures { W.WorkList.sound list.new slots.new }
 {
     let answer = list.take(slots);
-    if answer != model.take() {
+    if answer != model.take(choose) {
         tally.wrong = tally.wrong.saturating_add(1);
     }
     match answer {
@@ -78,11 +78,17 @@ fn take_one<W: WorkList<Propagation>>(
     }
 }
 
-/// Six thousand calls: mostly puts and mostly takes by turns, so that the list fills up and runs empty.
-fn mixed<W: WorkList<Propagation> + Drop>(heap: Global, order: Order) -> Result<Tally, AllocError> {
-    let mut slots = [NOTHING; 48];
+/// Six thousand calls: mostly puts and mostly takes by turns, so that the list fills up and runs empty. `choose`
+/// answers which of the waiting items, the oldest first, is to be taken.
+fn mixed<W: WorkList<Propagation> + Drop, F: Fn(&[Propagation]) -> Option<Propagation> + Drop>(
+    heap: Global,
+    choose: F,
+) -> Result<Tally, AllocError>
+    requires { F.IsAlwaysCallable choose }
+{
+    let mut slots = [Propagation::default(); 48];
     let mut list = W::start();
-    let mut model = Model::new(heap, order);
+    let mut model = Model::new(heap);
     let mut numbers = Generator::new(7);
     let mut tally = Tally::default();
     for round in 0..6000u32 {
@@ -96,48 +102,38 @@ fn mixed<W: WorkList<Propagation> + Drop>(heap: Global, order: Order) -> Result<
                 &mut tally,
             )?;
         } else {
-            take_one(&mut list, &mut slots, &mut model, &mut tally);
+            take_one(&mut list, &mut slots, &mut model, &choose, &mut tally);
         }
     }
     tally.waiting = list.waiting();
     Ok(tally)
 }
 
+/// Items to pass through a list.
+fn items(seed: u64) -> [Propagation; PASSED] {
+    let mut numbers = Generator::new(seed);
+    std::array::from_fn(|_| numbers.item())
+}
+
 /// How many items are less than the one before them, after a pass through a heap.
 fn descents() -> usize {
-    let mut slots = [NOTHING; 2000];
-    let mut items = [NOTHING; 2000];
-    let mut numbers = Generator::new(11);
-    for item in items.iter_mut() {
-        *item = numbers.item();
-    }
+    let mut slots = [Propagation::default(); PASSED];
+    let mut items = items(11);
     through_heap(&mut slots, &mut items);
-    let mut found = 0usize;
-    for pair in items.windows(2) {
-        if pair[1] < pair[0] {
-            found = found.saturating_add(1);
-        }
-    }
-    found
+    items.windows(2).filter(|pair| pair[1] < pair[0]).count()
 }
 
 /// How many items are not where they were, after a pass through a ring.
 fn displaced() -> usize {
-    let mut slots = [NOTHING; 2000];
-    let mut items = [NOTHING; 2000];
-    let mut numbers = Generator::new(13);
-    for item in items.iter_mut() {
-        *item = numbers.item();
-    }
-    let before = items;
-    through_ring(&mut slots, &mut items);
-    let mut found = 0usize;
-    for (a, b) in before.iter().zip(items.iter()) {
-        if *a != *b {
-            found = found.saturating_add(1);
-        }
-    }
-    found
+    let mut slots = [Propagation::default(); PASSED];
+    let before = items(13);
+    let mut after = before;
+    through_ring(&mut slots, &mut after);
+    before
+        .iter()
+        .zip(after.iter())
+        .filter(|(a, b)| a != b)
+        .count()
 }
 
 fn show(rt: &impl Print, name: &str, t: Tally) -> io::Result<()> {
@@ -149,8 +145,10 @@ fn show(rt: &impl Print, name: &str, t: Tally) -> io::Result<()> {
 }
 
 fn main(rt: HostRuntime) -> io::Result<()> {
-    show(&rt, "heap", mixed::<Heap>(rt.alloc(), Order::Least)?)?;
-    show(&rt, "ring", mixed::<Ring>(rt.alloc(), Order::Oldest)?)?;
-    println!(rt; "heap: 2000 passed, {} descents", descents())?;
-    println!(rt; "ring: 2000 passed, {} displaced", displaced())
+    let least = |waiting: &[Propagation]| waiting.iter().copied().min();
+    let oldest = |waiting: &[Propagation]| waiting.first().copied();
+    show(&rt, "heap", mixed::<Heap, _>(rt.alloc(), least)?)?;
+    show(&rt, "ring", mixed::<Ring, _>(rt.alloc(), oldest)?)?;
+    println!(rt; "heap: {PASSED} passed, {} descents", descents())?;
+    println!(rt; "ring: {PASSED} passed, {} displaced", displaced())
 }

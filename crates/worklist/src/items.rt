@@ -23,7 +23,7 @@ pub trait Item: Ord + Copy {
 }
 
 /// A decision diagram of `vertex` at `level` that waits to be propagated, of `size` nodes.
-#[derive(Clone, Copy, PartialEq, Eq, PartialOrd, Ord)]
+#[derive(Clone, Copy, Default, PartialEq, Eq, PartialOrd, Ord)]
 pub struct Propagation {
     pub size: u32,
     pub vertex: u16,
@@ -38,6 +38,7 @@ impl Item for Propagation {
 
 /// A decision diagram that waits to have a variable replaced, of `size` nodes: of the first or the second of the
 /// two functions in question, `side` 0 or 1, and with a number of its own, `serial`.
+// `side` is a number: any `u8` is put, ordered and taken, and an enum of two would ask more of who makes an item.
 #[derive(Clone, Copy, PartialEq, Eq, PartialOrd, Ord)]
 pub struct Resubstitution {
     pub size: u32,

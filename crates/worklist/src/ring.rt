@@ -11,6 +11,7 @@ ghost use Rattle.worklist.specs.Owed.{in_order, bag_fits};
 use super::list::{Full, WorkList};
 
 /// A ring of `count` slots from `first` on.
+// The slots are lent at each call and nothing is allocated, so std's `VecDeque`, which owns its items, is no way.
 #[derive(Clone, Copy)]
 pub struct Ring {
     first: usize,

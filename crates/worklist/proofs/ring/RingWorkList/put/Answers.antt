@@ -1,5 +1,5 @@
 -- A put into a ring: the item goes into the slot behind the last, from `first` on or round to the start.
-use Rattle.std.proofs.Common.{◌≡◌, ℕ, ◌+◌, ◌<◌, ◌≤◌, true, false, [], ◌∷◌, ◌++◌, length, take, set, sym, refl, ap, ◌∙◌, true≢false, arith}
+use Rattle.std.proofs.Common.{◌≡◌, ℕ, ◌+◌, ◌<◌, ◌≤◌, true, false, [], ◌∷◌, ◌++◌, length, take, set, refl, ap, ◌∙◌, arith}
 use Rattle.worklist.specs.Queues.{around, behind}
 use Rattle.worklist.proofs.Circles.{length_bag, joins_onward, joins_before, place_onward, place_before, still}
 use Rattle.worklist.proofs.Promises.{ring_put, put_queued}
