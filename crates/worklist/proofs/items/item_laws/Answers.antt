@@ -2,5 +2,5 @@
 use Rattle.worklist.proofs.Ranking.{repeat}
 use Rattle.worklist.proofs.items.item_laws.Goals as goal
 
-pub returns : goal.returns
-returns g c = record { ordered = g.met.T.Item.ordered; repeat = repeat g.met.T.Ord.total g.met.T.Item.ordered }
+pub returns-clause-repeat : goal.returns-clause-repeat
+returns-clause-repeat g c = repeat g.met.T.Ord.total g.met.T.Item.ordered
