@@ -30,51 +30,62 @@ struct Tally {
     waiting: usize,
 }
 
-/// Puts an item into the list and, where it is accepted, into the model; it is to be accepted while there is room.
-fn put_one<W: WorkList<Propagation>>(
-    list: &mut W,
-    slots: &mut [Propagation],
-    model: &mut Model,
-    item: Propagation,
-    tally: &mut Tally,
-) -> Result<(), AllocError>
-    requires { W.WorkList.sound list.old slots.old }
-    ensures { W.WorkList.sound list.new slots.new }
-{
-    let room = model.waiting() < slots.len();
-    let answer = list.put(slots, item);
-    if answer.is_ok() != room {
-        tally.wrong = tally.wrong.saturating_add(1);
-    }
-    match answer {
-        Ok(()) => {
-            tally.put = tally.put.saturating_add(1);
-            model.put(item)?;
-        }
-        Err(Full) => tally.refused = tally.refused.saturating_add(1),
-    }
-    Ok(())
+/// A work list, the slots that it is lent, the model that it is compared with, and the tally of its answers.
+// That the list is sound stands in the clauses: a ghost field is a proposition, and `sound` is any type.
+#[derive(Drop)]
+struct Trial<W: WorkList<Propagation>> {
+    list: W,
+    slots: [Propagation; 48],
+    model: Model,
+    tally: Tally,
 }
 
-/// Takes an item from the list, and from the model the one that `choose` answers of those that wait.
-fn take_one<W: WorkList<Propagation>, F: Fn(&[Propagation]) -> Option<Propagation>>(
-    list: &mut W,
-    slots: &mut [Propagation],
-    model: &mut Model,
-    choose: &F,
-    tally: &mut Tally,
-)
-    requires sound { W.WorkList.sound list.old slots.old }
-    requires callable { F.IsAlwaysCallable choose.now }
-    ensures { W.WorkList.sound list.new slots.new }
-{
-    let answer = list.take(slots);
-    if answer != model.take(choose) {
-        tally.wrong = tally.wrong.saturating_add(1);
+impl<W: WorkList<Propagation>> Trial<W> {
+    fn new(heap: Global) -> Trial<W>
+        ensures { W.WorkList.sound result.list result.slots }
+    {
+        Trial {
+            list: W::start(),
+            slots: [Propagation::default(); 48],
+            model: Model::new(heap),
+            tally: Tally::default(),
+        }
     }
-    match answer {
-        Some(_) => tally.taken = tally.taken.saturating_add(1),
-        None => tally.none = tally.none.saturating_add(1),
+
+    /// Puts an item into the list and, where it is accepted, into the model; it is to be accepted while there is room.
+    fn put(&mut self, item: Propagation) -> Result<(), AllocError>
+        requires { W.WorkList.sound self.old.list self.old.slots }
+        ensures { W.WorkList.sound self.new.list self.new.slots }
+    {
+        let room = self.model.waiting() < self.slots.len();
+        let answer = self.list.put(&mut self.slots, item);
+        if answer.is_ok() != room {
+            self.tally.wrong = self.tally.wrong.saturating_add(1);
+        }
+        match answer {
+            Ok(()) => {
+                self.tally.put = self.tally.put.saturating_add(1);
+                self.model.put(item)?;
+            }
+            Err(Full) => self.tally.refused = self.tally.refused.saturating_add(1),
+        }
+        Ok(())
+    }
+
+    /// Takes an item from the list, and from the model the one that `choose` answers of those that wait.
+    fn take<F: Fn(&[Propagation]) -> Option<Propagation>>(&mut self, choose: &F)
+        requires sound { W.WorkList.sound self.old.list self.old.slots }
+        requires callable { F.IsAlwaysCallable choose.now }
+        ensures { W.WorkList.sound self.new.list self.new.slots }
+    {
+        let answer = self.list.take(&mut self.slots);
+        if answer != self.model.take(choose) {
+            self.tally.wrong = self.tally.wrong.saturating_add(1);
+        }
+        match answer {
+            Some(_) => self.tally.taken = self.tally.taken.saturating_add(1),
+            None => self.tally.none = self.tally.none.saturating_add(1),
+        }
     }
 }
 
@@ -86,27 +97,18 @@ fn mixed<W: WorkList<Propagation> + Drop, F: Fn(&[Propagation]) -> Option<Propag
 ) -> Result<Tally, AllocError>
     requires { F.IsAlwaysCallable choose }
 {
-    let mut slots = [Propagation::default(); 48];
-    let mut list = W::start();
-    let mut model = Model::new(heap);
+    let mut trial = Trial::<W>::new(heap);
     let mut numbers = Generator::new(7);
-    let mut tally = Tally::default();
     for round in 0..6000u32 {
         let puts = if round / 400 % 2 == 0 { 11 } else { 5 };
         if numbers.below(16) < puts {
-            put_one(
-                &mut list,
-                &mut slots,
-                &mut model,
-                numbers.item(),
-                &mut tally,
-            )?;
+            trial.put(numbers.item())?;
         } else {
-            take_one(&mut list, &mut slots, &mut model, &choose, &mut tally);
+            trial.take(&choose);
         }
     }
-    tally.waiting = list.waiting();
-    Ok(tally)
+    trial.tally.waiting = trial.list.waiting();
+    Ok(trial.tally)
 }
 
 /// Items to pass through a list.
