@@ -17,7 +17,8 @@ pub struct Full;
 
 /// A bag of waiting items of type `T`.
 pub trait WorkList<T>: Sized {
-    /// What the list keeps of its slots from call to call.
+    /// What the list keeps of its slots from call to call. It stands in the clauses, and is no ghost field, since it
+    /// speaks of slots that are lent later.
     ghost sound: { Self → List T → Type 0 };
 
     /// The waiting items.
