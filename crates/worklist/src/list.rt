@@ -47,8 +47,8 @@ pub trait WorkList<T>: Sized {
     fn waiting(&self) -> usize
         ensures { (slots : List T) → sound self.now slots → result ≡ length (bag self.now slots) };
 
-    /// Adds an item, or answers `Full` and changes nothing where every slot holds a waiting item. That it was accepted,
-    /// in the words of `Put` and of a call, is that the answer `is_ok`.
+    /// Adds an item, or answers `Full` and changes nothing where every slot holds a waiting item. The Bool by which
+    /// `Put` and `Call` say that an item was accepted is the answer's `is_ok`.
     fn put(&mut self, slots: &mut [T], item: T) -> Result<(), Full>
         requires { sound self.old slots.old }
         ensures keeps { sound self.new slots.new }
