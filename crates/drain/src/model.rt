@@ -1,29 +1,18 @@
 //! A plain list of what waits, to compare a work list with.
 
-ghost use Rattle.std.specs.Prelude.{◌<◌, length};
-
 use std::alloc::{AllocError, Global};
 use worklist::items::Propagation;
-
-/// Which of the waiting items is taken.
-#[derive(Clone, Copy)]
-pub enum Order {
-    Least,
-    Oldest,
-}
 
 /// The waiting items, the oldest first.
 #[derive(Drop)]
 pub struct Model {
     waiting: Vec<Propagation>,
-    order: Order,
 }
 
 impl Model {
-    pub fn new(heap: Global, order: Order) -> Model {
+    pub fn new(heap: Global) -> Model {
         Model {
             waiting: Vec::new(heap),
-            order,
         }
     }
 
@@ -36,28 +25,17 @@ impl Model {
         Ok(())
     }
 
-    pub fn take(&mut self) -> Option<Propagation> {
-        if self.waiting.is_empty() {
-            return None;
+    /// Takes the item that `choose` answers of those that wait.
+    pub fn take<F: Fn(&[Propagation]) -> Option<Propagation>>(
+        &mut self,
+        choose: &F,
+    ) -> Option<Propagation>
+        requires { F.IsAlwaysCallable choose.now }
+    {
+        let chosen = choose(&self.waiting)?;
+        if let Some(place) = self.waiting.iter().position(|item| *item == chosen) {
+            self.waiting.remove(place);
         }
-        let place = match self.order {
-            Order::Least => least(&self.waiting),
-            Order::Oldest => 0,
-        };
-        Some(self.waiting.remove(place))
+        Some(chosen)
     }
-}
-
-/// The place of a least item.
-fn least(items: &[Propagation]) -> usize
-    requires { 0 < length items.now }
-    ensures { result < length items.now }
-{
-    let mut place = 0;
-    for i in 1..items.len() {
-        if items[i] < items[place] {
-            place = i;
-        }
-    }
-    place
 }

@@ -1,130 +1,21 @@
--- The orders of the two item types: what `cmp` answers is the order of the fields in turn, which is total.
-use Rattle.std.proofs.Common.{◌≡◌, ℕ, ◌<◌, false, ◌⊎◌, List, [], ◌∷◌, Some, None, Option, Ordering, Less, Equal, Greater, sym, ap, ◌∙◌, subst, inl, inr, true≢false, arith}
-use Rattle.std.specs.Cmp.{IsTotalOrder, ranks}
-use Rattle.std.specs.Ordering.{is_lt, is_gt, ordering_then, MatchOrdering, nat_cmp}
+-- What the law of items gives: a heap takes a foremost item, and two heaps asked alike answer alike.
+use Rattle.std.proofs.Common.{List, Some, None, Option, Ordering, Equal, refl}
+use Rattle.std.specs.Cmp.{IsTotalOrder}
 use Rattle.std.proofs.lemmas.Map.Lookups.{CmpEqualImpliesEq}
 use Rattle.worklist.specs.Bags.{Put}
-use Rattle.worklist.specs.Calls.{Call, put, take}
-use Rattle.worklist.specs.Laws.{EachTake, Repeats}
-use Rattle.worklist.specs.Orders.{Least, NoLower, TookLeast}
-use Rattle.worklist.specs.Items.{Below, Before, Earlier, Foremost, TookForemost, Ordered, ByPropagation, ByResubstitution, propagations, resubstitutions}
-use Rattle.worklist.specs.declared.items.Propagation.{Propagation}
-use Rattle.worklist.specs.declared.items.Resubstitution.{Resubstitution}
+use Rattle.worklist.specs.Laws.{Repeats}
+use Rattle.worklist.specs.Orders.{TookLeast}
+use Rattle.worklist.specs.Items.{TookForemost, Ordered}
+use Rattle.worklist.specs.Ranks.{all_after}
 use Rattle.worklist.proofs.Repeating.{heaps}
 
--- ---- numbers in turn
-
-then_ranked : (L E F G L' E' G' : Type 0) (k m : Ordering) → (E → F) → MatchOrdering k L E G → MatchOrdering m L' E' G' → MatchOrdering (ordering_then k m) (L ⊎ (E × L')) (E × E') (G ⊎ (F × G'))
-then_ranked L E F G L' E' G' Less m f h j = inl h
-then_ranked L E F G L' E' G' Equal Less f h j = inr (h, j)
-then_ranked L E F G L' E' G' Equal Equal f h j = (h, j)
-then_ranked L E F G L' E' G' Equal Greater f h j = inr (f h, j)
-then_ranked L E F G L' E' G' Greater m f h j = inl h
-
-three : (a b c a' b' c' : ℕ) → MatchOrdering (ordering_then (nat_cmp a a') (ordering_then (nat_cmp b b') (nat_cmp c c'))) (Below a b c a' b' c') ((a ≡ a') × ((b ≡ b') × (c ≡ c'))) (Below a' b' c' a b c)
-three a b c a' b' c' =
-    then_ranked (a < a') (a ≡ a') (a' ≡ a) (a' < a) ((b < b') ⊎ ((b ≡ b') × (c < c'))) ((b ≡ b') × (c ≡ c')) ((b' < b) ⊎ ((b' ≡ b) × (c' < c)))
-    (nat_cmp a a') (ordering_then (nat_cmp b b') (nat_cmp c c')) sym (ranks a a')
-    (then_ranked (b < b') (b ≡ b') (b' ≡ b) (b' < b) (c < c') (c ≡ c') (c' < c) (nat_cmp b b') (nat_cmp c c') sym (ranks b b') (ranks c c'))
-
-abbrev Two : ℕ → ℕ → ℕ → ℕ → Type 0
-Two b c b' c' = (b < b') ⊎ ((b ≡ b') × (c < c'))
-
-not_two : (b c : ℕ) → Two b c b c → ⊥
-not_two b c (inl h) = omega arith
-not_two b c (inr h) = let l : c < c = h.1 in omega arith
-
-not_below : (a b c : ℕ) → Below a b c a b c → ⊥
-not_below a b c (inl h) = omega arith
-not_below a b c (inr h) = not_two b c h.1
-
-two_on : (b c b' c' b'' c'' : ℕ) → Two b c b' c' → Two b' c' b'' c'' → Two b c b'' c''
-two_on b c b' c' b'' c'' (inl h) (inl j) = inl (omega arith)
-two_on b c b' c' b'' c'' (inl h) (inr j) = let e : b' ≡ b'' = j.0 in inl (omega arith)
-two_on b c b' c' b'' c'' (inr h) (inl j) = let e : b ≡ b' = h.0 in inl (omega arith)
-two_on b c b' c' b'' c'' (inr h) (inr j) = let l : c < c' = h.1 in let m : c' < c'' = j.1 in inr (h.0 ∙ j.0, omega arith)
-
-below_on : (a b c a' b' c' a'' b'' c'' : ℕ) → Below a b c a' b' c' → Below a' b' c' a'' b'' c'' → Below a b c a'' b'' c''
-below_on a b c a' b' c' a'' b'' c'' (inl h) (inl j) = inl (omega arith)
-below_on a b c a' b' c' a'' b'' c'' (inl h) (inr j) = let e : a' ≡ a'' = j.0 in inl (omega arith)
-below_on a b c a' b' c' a'' b'' c'' (inr h) (inl j) = let e : a ≡ a' = h.0 in inl (omega arith)
-below_on a b c a' b' c' a'' b'' c'' (inr h) (inr j) = inr (h.0 ∙ j.0, two_on b c b' c' b'' c'' h.1 j.1)
-
--- ---- items
-
-same_propagation : (x y : Propagation) → (x.size ≡ y.size) × ((x.vertex ≡ y.vertex) × (x.level ≡ y.level)) → x ≡ y
-same_propagation x y h = λ i. record { size = h.0 i; vertex = h.1.0 i; level = h.1.1 i }
-
-same_resubstitution : (x y : Resubstitution) → (x.size ≡ y.size) × ((x.side ≡ y.side) × (x.serial ≡ y.serial)) → x ≡ y
-same_resubstitution x y h = λ i. record { size = h.0 i; side = h.1.0 i; serial = h.1.1 i }
-
-by_same : (L E F G : Type 0) (k : Ordering) → (E → F) → MatchOrdering k L E G → MatchOrdering k L F G
-by_same L E F G Less f h = h
-by_same L E F G Equal f h = f h
-by_same L E F G Greater f h = h
-
-pub by_propagation : (x y : Propagation) → MatchOrdering (ByPropagation x y) (Before x y) (x ≡ y) (Before y x)
-by_propagation x y = by_same (Before x y) _ (x ≡ y) (Before y x) (ByPropagation x y) (same_propagation x y) (three x.size x.vertex x.level y.size y.vertex y.level)
-
-pub by_resubstitution : (x y : Resubstitution) → MatchOrdering (ByResubstitution x y) (Earlier x y) (x ≡ y) (Earlier y x)
-by_resubstitution x y = by_same (Earlier x y) _ (x ≡ y) (Earlier y x) (ByResubstitution x y) (same_resubstitution x y) (three x.size x.side x.serial y.size y.side y.serial)
-
--- ---- an order by B, read off `cmp`
-
--- not less is the same, or after
-after : (L E G : Type 0) (k : Ordering) → MatchOrdering k L E G → is_lt k ≡ false → E ⊎ G
-after L E G Less h e = absurd (true≢false e)
-after L E G Equal h e = inl h
-after L E G Greater h e = inr h
-
-which : (L E G : Type 0) (k : Ordering) → MatchOrdering k L E G → E ⊎ (L ⊎ G)
-which L E G Less h = inr (inl h)
-which L E G Equal h = inl h
-which L E G Greater h = inr (inr h)
-
-at_most : {X : Type 0} (B : X → X → Type 0) (x y : X) → (y ≡ x) ⊎ B x y → (x ≡ y) ⊎ B x y
-at_most B x y (inl e) = inl (sym e)
-at_most B x y (inr b) = inr b
-
-each_weaker : {X : Type 0} (F G : X → List X → Type 0) → ((x : X) (xs : List X) → F x xs → G x xs) → (calls : List (Call X)) → EachTake F calls → EachTake G calls
-each_weaker F G f [] h = tt
-each_weaker F G f (put x r ∷ calls) h = each_weaker F G f calls h
-each_weaker F G f (take None ∷ calls) h = each_weaker F G f calls h
-each_weaker F G f (take (Some x) ∷ calls) h = ((h.0.0, h.0.1, f x h.0.0 h.0.2), each_weaker F G f calls h.1)
-
-module _ {X : Type 0} {R : X → X → Ordering} (o : IsTotalOrder R) (B : X → X → Type 0) (is : (x y : X) → MatchOrdering (R x y) (B x y) (x ≡ y) (B y x)) where
-  all_after : (x : X) (xs : List X) → Least o x xs → Foremost B x xs
-  all_after x [] h = tt
-  all_after x (y ∷ ys) h = (at_most B x y (after (B y x) (y ≡ x) (B x y) (R y x) (is y x) h.0), all_after x ys h.1)
-
+module _ {X : Type 0} {R : X → X → Ordering} (o : IsTotalOrder R) {B : X → X → Type 0} (law : Ordered R B) where
   pub foremost : (xs : List X) (r : Option X) (ys : List X) → TookLeast R xs r ys → TookForemost B xs r ys
   foremost xs None ys h = h
-  foremost xs (Some x) ys h = (h.0, all_after x xs (h.1 o))
-
-  tied : (x y : X) (k : Ordering) → MatchOrdering k (B x y) (x ≡ y) (B y x) → k ≡ Equal → x ≡ y
-  tied x y Less h e = absurd (true≢false (ap is_lt e))
-  tied x y Equal h e = h
-  tied x y Greater h e = absurd (true≢false (ap is_gt e))
+  foremost xs (Some x) ys h = (h.0, all_after o B (λ x y. law.compares x y (R x y) refl) x xs (h.1 o))
 
   exact : CmpEqualImpliesEq R
-  exact x y e = tied x y (R x y) (is x y) e
+  exact x y e = law.compares x y Equal e
 
   pub repeat : Repeats Put (TookLeast R)
   repeat = heaps R o exact
-
-  ordered : ((x : X) → B x x → ⊥) → ((x y z : X) → B x y → B y z → B x z) → Ordered R B
-  ordered irreflexive transitive = record {
-    total = record { never_itself = irreflexive; onward = transitive; either = λ x y. which (B x y) (x ≡ y) (B y x) (R x y) (is x y) };
-    compares = λ x y r h. subst (λ k. MatchOrdering k (B x y) (x ≡ y) (B y x)) h (is x y);
-    leads = λ calls waiting h. each_weaker (NoLower R) (Foremost B) (λ x xs low. all_after x xs (low o)) calls h;
-  }
-
-pub propagations_ordered : Ordered ByPropagation Before
-propagations_ordered = ordered propagations Before by_propagation
-    (λ x. not_below x.size x.vertex x.level)
-    (λ x y z. below_on x.size x.vertex x.level y.size y.vertex y.level z.size z.vertex z.level)
-
-pub resubstitutions_ordered : Ordered ByResubstitution Earlier
-resubstitutions_ordered = ordered resubstitutions Earlier by_resubstitution
-    (λ x. not_below x.size x.side x.serial)
-    (λ x y z. below_on x.size x.side x.serial y.size y.side y.serial z.size z.side z.serial)

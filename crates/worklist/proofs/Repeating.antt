@@ -1,11 +1,11 @@
 -- Two lists that are asked alike answer alike: heaps whose items of equal rank are the same item, and rings.
 use Rattle.std.proofs.Common.{◌≡◌, ℕ, ◌<◌, true, false, List, [], ◌∷◌, ◌++◌, length, Some, None, Option, Ordering, Equal, sym, refl, ap, ◌∙◌, subst, arith}
-use Rattle.std.specs.Cmp.{IsTotalOrder}
+use Rattle.std.specs.Cmp.{IsTotalOrder, tied_itself}
 use Rattle.std.proofs.lemmas.Map.Lookups.{CmpEqualImpliesEq}
 use Rattle.worklist.specs.Queues.{Queued, Oldest}
 use Rattle.worklist.specs.Calls.{Call, put, take, Run, started, puts, takes}
 use Rattle.worklist.specs.Laws.{asked, Asked, Answered, Repeats, HeapsRepeat}
-use Rattle.worklist.proofs.Ties.{self, by_rank}
+use Rattle.worklist.proofs.Ties.{by_rank}
 
 module _ {X : Type 0} where
   -- the parts of two equal strings of questions
@@ -31,7 +31,7 @@ module _ {X : Type 0} where
     agree (put x r ∷ es) [] e = some_none (Some x) (asked es) e
     agree (take r ∷ es) [] e = some_none None (asked es) e
     agree (put x r ∷ es) (put y s ∷ fs) e =
-        (subst (λ w. R x w ≡ Equal) (item_of x y (asked es) (asked fs) e) (self o x), agree es fs (rest_of (Some x) (Some y) (asked es) (asked fs) e))
+        (subst (λ w. R x w ≡ Equal) (item_of x y (asked es) (asked fs) e) (tied_itself o x), agree es fs (rest_of (Some x) (Some y) (asked es) (asked fs) e))
     agree (put x r ∷ es) (take s ∷ fs) e = put_take x (asked es) (asked fs) e
     agree (take r ∷ es) (put y s ∷ fs) e = put_take y (asked fs) (asked es) (sym e)
     agree (take r ∷ es) (take s ∷ fs) e = agree es fs (rest_of None None (asked es) (asked fs) e)

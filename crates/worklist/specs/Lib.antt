@@ -7,3 +7,4 @@ pub mod Laws
 pub mod Heaps
 pub mod Items
 pub mod Owed
+pub mod Ranks

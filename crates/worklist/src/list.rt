@@ -4,13 +4,21 @@
 //! allocated. The ghost members say what an implementation means by its counters and slots; the clauses are what
 //! code over any work list is proved from.
 
-ghost use Rattle.std.specs.Prelude.{◌≡◌, ℕ, ◌≤◌, Bool, true, false, List, [], length, None, Option};
+ghost use Rattle.std.specs.Prelude.{◌≡◌, ℕ, ◌≤◌, Bool, List, [], length, None, Option, is_ok, OnOk, OnErr};
 ghost use Rattle.worklist.specs.Bags.{Put, Took};
 ghost use Rattle.worklist.specs.Calls.{Call, Run, Promised, put, take};
 
+use thiserror::Error;
+
+/// Why a put is refused: every slot holds a waiting item.
+#[derive(Clone, Copy, Debug, PartialEq, Eq, Error)]
+#[error("every slot holds a waiting item")]
+pub struct Full;
+
 /// A bag of waiting items of type `T`.
 pub trait WorkList<T>: Sized {
-    /// What the list keeps of its slots from call to call.
+    /// What the list keeps of its slots from call to call. It stands in the clauses, and is no ghost field, since it
+    /// speaks of slots that are lent later.
     ghost sound: { Self → List T → Type 0 };
 
     /// The waiting items.
@@ -39,15 +47,16 @@ pub trait WorkList<T>: Sized {
     fn waiting(&self) -> usize
         ensures { (slots : List T) → sound self.now slots → result ≡ length (bag self.now slots) };
 
-    /// Adds an item and answers true, or answers false and changes nothing where every slot holds a waiting item.
-    fn put(&mut self, slots: &mut [T], item: T) -> bool
+    /// Adds an item, or answers `Full` and changes nothing where every slot holds a waiting item. The Bool by which
+    /// `Put` and `Call` say that an item was accepted is the answer's `is_ok`.
+    fn put(&mut self, slots: &mut [T], item: T) -> Result<(), Full>
         requires { sound self.old slots.old }
         ensures keeps { sound self.new slots.new }
-        ensures puts { Put (length slots.old) (bag self.old slots.old) item result (bag self.new slots.new) }
-        ensures joins { joins (length slots.old) (bag self.old slots.old) item result (bag self.new slots.new) }
-        ensures refuses { result ≡ false → (self.new ≡ self.old) × (slots.new ≡ slots.old) }
-        ensures stores { result ≡ true → stores self.old slots.old item slots.new }
-        ensures promise { Promised joins leaves rule (length slots.old) (bag self.old slots.old) (put item result) (bag self.new slots.new) };
+        ensures puts { Put (length slots.old) (bag self.old slots.old) item (is_ok result) (bag self.new slots.new) }
+        ensures joins { joins (length slots.old) (bag self.old slots.old) item (is_ok result) (bag self.new slots.new) }
+        ensures refuses { OnErr result ((self.new ≡ self.old) × (slots.new ≡ slots.old)) }
+        ensures stores { OnOk result (stores self.old slots.old item slots.new) }
+        ensures promise { Promised joins leaves rule (length slots.old) (bag self.old slots.old) (put item (is_ok result)) (bag self.new slots.new) };
 
     /// Takes a waiting item and answers it, or answers none and changes nothing where none waits.
     fn take(&mut self, slots: &mut [T]) -> Option<T>

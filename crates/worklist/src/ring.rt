@@ -8,9 +8,10 @@ ghost use Rattle.worklist.specs.Laws.{FirstInFirstOut, Repeats};
 ghost use Rattle.worklist.specs.Queues.{Queued, Oldest, Circle, around, behind};
 ghost use Rattle.worklist.specs.Owed.{in_order, bag_fits};
 
-use super::list::WorkList;
+use super::list::{Full, WorkList};
 
 /// A ring of `count` slots from `first` on.
+// The slots are lent at each call and nothing is allocated, so std's `VecDeque`, which owns its items, is no way.
 #[derive(Clone, Copy)]
 pub struct Ring {
     first: usize,
@@ -44,9 +45,9 @@ impl<T: Copy> WorkList<T> for Ring {
         self.count
     }
 
-    fn put(&mut self, slots: &mut [T], item: T) -> bool {
+    fn put(&mut self, slots: &mut [T], item: T) -> Result<(), Full> {
         if self.count == slots.len() {
-            return false;
+            return Err(Full);
         }
         let to_end = slots.len() - self.first;
         if self.count < to_end {
@@ -55,7 +56,7 @@ impl<T: Copy> WorkList<T> for Ring {
             slots[self.count - to_end] = item;
         }
         self.count += 1;
-        true
+        Ok(())
     }
 
     fn take(&mut self, slots: &mut [T]) -> Option<T> {

@@ -1,25 +1,18 @@
 -- A put into a ring: the item goes into the slot behind the last, from `first` on or round to the start.
-use Rattle.std.proofs.Common.{◌≡◌, ℕ, ◌+◌, ◌<◌, ◌≤◌, true, false, [], ◌∷◌, ◌++◌, length, take, set, sym, refl, ap, ◌∙◌, true≢false, arith}
+use Rattle.std.proofs.Common.{rules, ◌≡◌, ℕ, ◌+◌, ◌<◌, ◌≤◌, true, false, [], ◌∷◌, ◌++◌, length, take, set, refl, ap, ◌∙◌, arith}
 use Rattle.worklist.specs.Queues.{around, behind}
 use Rattle.worklist.proofs.Circles.{length_bag, joins_onward, joins_before, place_onward, place_before, still}
 use Rattle.worklist.proofs.Promises.{ring_put, put_queued}
 use Rattle.worklist.proofs.ring.RingWorkList.put.Goals as goal
 use Rattle.worklist.proofs.ring.RingWorkList.put.Goals.{then-self-to_end, else-self-to_end}
 
-pub returns-then-self-slots : goal.returns-then-self-slots
-returns-then-self-slots g c =
+pub returns-then-self-slots-clause-promise : goal.returns-then-self-slots-clause-promise
+returns-then-self-slots-clause-promise g c =
     let xs = c.args.slots.now in
+    let first = c.args.self.now.first in
     let n = c.args.self.now.count in
-    let bag = take n (around c.args.self.now.first xs) in
-    let full : length bag ≡ length xs = length_bag c.args.self.now.first n xs c.requires ∙ c.if-self-slots.true in
-    record {
-      keeps = c.requires;
-      puts = (full, refl {a = bag});
-      joins = (full, refl {a = bag});
-      refuses = λ _. (refl, refl);
-      stores = λ e. absurd (true≢false (sym e));
-      promise = ring_put (length xs) bag c.args.item false bag (full, refl);
-    }
+    let bag = take n (around first xs) in
+    ring_put (length xs) bag c.args.item false bag (length_bag first n xs c.requires ∙ c.if-self-slots.true, refl)
 
 pub returns : goal.returns
 returns g c =
@@ -47,7 +40,7 @@ returns g c =
       keeps = still first n xs ys c.requires lt c.if-self-to_end.auto.slots;
       puts = put_queued (length xs) bag x true (take (n + 1) (around first ys)) (room, is);
       joins = (room, is);
-      refuses = λ e. absurd (true≢false e);
-      stores = λ _. wrote;
+      refuses = search rules;
+      stores = wrote;
       promise = ring_put (length xs) bag x true (take (n + 1) (around first ys)) (room, is);
     }

@@ -1,27 +1,19 @@
 -- A take from a ring: the oldest item, and `first` goes on by one, or round to the start.
-use Rattle.std.proofs.Common.{◌≡◌, ℕ, ◌+◌, ◌-◌, ◌<◌, ◌≤◌, [], ◌∷◌, length, take, Some, None, sym, refl, ap, ◌∙◌, subst, arith}
+use Rattle.std.proofs.Common.{rules, ◌≡◌, ℕ, ◌+◌, ◌-◌, ◌<◌, ◌≤◌, [], ◌∷◌, length, take, Some, None, sym, ap, ◌∙◌, subst, arith}
 use Rattle.worklist.specs.Queues.{around, Circle}
 use Rattle.worklist.specs.declared.ring.Ring.{Ring}
 use Rattle.worklist.proofs.Circles.{leaves_on, around_all}
-use Rattle.worklist.proofs.Mounds.{some_is_not_none}
 use Rattle.worklist.proofs.Promises.{ring_take, took_oldest}
 use Rattle.worklist.proofs.ring.RingWorkList.take.Goals as goal
 use Rattle.worklist.proofs.ring.RingWorkList.take.Goals.{then-self-slots, else-self-slots}
 
-pub returns-then-self-eq0 : goal.returns-then-self-eq0
-returns-then-self-eq0 g c =
+pub returns-then-self-eq0-clause-promise : goal.returns-then-self-eq0-clause-promise
+returns-then-self-eq0-clause-promise g c =
     let xs = c.args.slots.now in
     let n = c.args.self.now.count in
     let bag = take n (around c.args.self.now.first xs) in
     let none : bag ≡ [] = ap (λ (k : ℕ). take k (around c.args.self.now.first xs)) c.if-self-eq0.true in
-    record {
-      keeps = c.requires;
-      takes = (none, none);
-      leaves = (none, none);
-      rests = λ _. (refl, refl);
-      clears = refl;
-      promise = ring_take (length xs) bag None bag (none, none);
-    }
+    ring_take (length xs) bag None bag (none, none)
 
 pub returns : goal.returns
 returns g c =
@@ -47,7 +39,7 @@ returns g c =
       keeps = both.0;
       takes = took_oldest bag (Some x) (take r.count (around r.first xs)) both.1;
       leaves = both.1;
-      rests = λ e. absurd (some_is_not_none x e);
-      clears = refl;
+      rests = search rules;
+      clears = search rules;
       promise = ring_take (length xs) bag (Some x) (take r.count (around r.first xs)) both.1;
     }
