@@ -1,8 +1,8 @@
 -- The lines of the AND as the definition has them, from what the lookup found.
 use Rattle.std.proofs.Common.{◌≡◌, ℕ, zero, suc, ◌*◌, ◌<◌, ◌≤◌, max, true, List, [], ◌∷◌, ◌++◌, length, Some, None, sym, refl, ap, ◌∙◌, subst, inl, inr, arith}
-use Rattle.std.proofs.lemmas.Bool.{cases_eq, cases_Bool, both_ways, eq-eqb, ne_eqb, eqb-true, lt-ltb, ltb-true, and_parts, and_from, cond-true, cond-false}
+use Rattle.std.proofs.lemmas.Bool.{cases_eq, cases_Bool, both_ways, eqb-true, ltb-true, and_parts, cond-true, cond-false}
+use Rattle.std.proofs.lemmas.Bool.Decides.{nat_tests}
 use Rattle.aig.specs.declared.vertex.Vertex.{Vertex}
-use Rattle.aig.specs.Nets.{inverse}
 use Rattle.aig.specs.Table.{left_of, right_of, survivor_of, vertex}
 use Rattle.aig.specs.Invariant.{Proper, StandingGate, NoTwins, Whole}
 use Rattle.aig.specs.Pairs.{Folds, zero_first, one_first, same, opposed, Absent, at, Known, folds, found, Unknown}
@@ -13,7 +13,7 @@ use Rattle.aig.proofs.Orders.{Ordered}
 
 module _ (n : ℕ) (t : List Vertex) (a b : ℕ) where
   pub pair_yes : (v : ℕ) → StandingGate n t v → left_of t v ≡ a → right_of t v ≡ b → has_pair n t a b v ≡ true
-  pair_yes v s l r = and_from _ _ (lt-ltb n v s.after) (and_from _ _ (eq-eqb _ _ s.stands) (and_from _ _ (eq-eqb _ _ l) (eq-eqb _ _ r)))
+  pair_yes v s l r = let after = s.after in let up = s.stands in grind (arith, nat_tests)
 
   pub pair_is : (v : ℕ) → v < length t → has_pair n t a b v ≡ true → StandingGate n t v × (left_of t v ≡ a) × (right_of t v ≡ b)
   pair_is v h e =
@@ -42,38 +42,17 @@ module _ (n : ℕ) (t : List Vertex) (a b : ℕ) where
 
   -- ---- the lines in turn
 
-  past_zero : (a ≡ 0 → ⊥) → (a ≡ 1 → ⊥) → (a ≡ b → ⊥) → (b ≡ inverse a → ⊥) → first_line n t a b ≡ found_or_fresh t a b (found_below n t a b (length t))
-  past_zero z o s i = cond-false _ _ _ (ne_eqb a 0 z) ∙ cond-false _ _ _ (ne_eqb a 1 o) ∙ cond-false _ _ _ (ne_eqb a b s) ∙ cond-false _ _ _ (ne_eqb b (inverse a) i)
-
   pub proper_line : Proper a b → first_line n t a b ≡ found_or_fresh t a b (found_below n t a b (length t))
-  proper_line p = let one = p.0 in let two = p.1 in past_zero (λ e. omega arith) (λ e. omega arith) (λ e. omega arith) (λ e. omega arith)
+  proper_line p = let one = p.0 in let two = p.1 in grind (arith, nat_tests)
 
   abbrev left_alone : ℕ → Made
   left_alone x = record { net = x; table = t }
 
-  same_line : a ≡ b → first_line n t a b ≡ left_alone a
-  same_line s = elim (cases_eq a 0) [
-    | inl z ↦ cond-true _ _ _ (eq-eqb a 0 z) ∙ ap left_alone (sym z)
-    | inr z ↦ cond-false _ _ _ (ne_eqb a 0 z) ∙ elim (cases_eq a 1) [
-      | inl o ↦ cond-true _ _ _ (eq-eqb a 1 o) ∙ ap left_alone (sym s)
-      | inr o ↦ cond-false _ _ _ (ne_eqb a 1 o) ∙ cond-true _ _ _ (eq-eqb a b s)
-    ]
-  ]
-
-  opposed_line : b ≡ inverse a → first_line n t a b ≡ left_alone 0
-  opposed_line i = elim (cases_eq a 0) [
-    | inl z ↦ cond-true _ _ _ (eq-eqb a 0 z)
-    | inr z ↦ cond-false _ _ _ (ne_eqb a 0 z) ∙ elim (cases_eq a 1) [
-      | inl o ↦ (let e : b ≡ 0 = omega arith in cond-true _ _ _ (eq-eqb a 1 o) ∙ ap left_alone e)
-      | inr o ↦ cond-false _ _ _ (ne_eqb a 1 o) ∙ cond-false _ _ _ (ne_eqb a b (λ e. omega arith)) ∙ cond-true _ _ _ (eq-eqb b (inverse a) i)
-    ]
-  ]
-
   fold_line : (x : ℕ) → Folds a b x → first_line n t a b ≡ left_alone x
-  fold_line _ (zero_first e) = cond-true _ _ _ (eq-eqb a 0 e)
-  fold_line _ (one_first e) = cond-false _ _ _ (ne_eqb a 0 (λ z. omega arith)) ∙ cond-true _ _ _ (eq-eqb a 1 e)
-  fold_line _ (same e) = same_line e
-  fold_line _ (opposed e) = opposed_line e
+  fold_line _ (zero_first e) = grind (arith, nat_tests)
+  fold_line _ (one_first e) = grind (arith, nat_tests)
+  fold_line _ (same e) = grind (arith, nat_tests)
+  fold_line _ (opposed e) = grind (arith, nat_tests)
 
   known_line : NoTwins n t → (x : ℕ) → Known n t a b x → first_line n t a b ≡ left_alone x
   known_line u _ (folds x f) = fold_line x f

@@ -102,27 +102,21 @@ module _ {n : ℕ} {t : List Vertex} where
 -- ---- the Boolean functions
 
 pub or_function : (a b na nb : Bool) → na ≡ not a → nb ≡ not b → not (na && nb) ≡ (a || b)
-or_function true b na nb e f = ap (λ (k : Bool). not (k && nb)) e
-or_function false b na nb e f = ap (λ (k : Bool). not (k && nb)) e ∙ ap not f ∙ not-not b
+or_function true b na nb e f = rw e
+or_function false b na nb e f = rw (e, f) (not-not b)
 
 pub nor_function : (a b na nb : Bool) → na ≡ not a → nb ≡ not b → (na && nb) ≡ not (a || b)
-nor_function true b na nb e f = ap (λ (k : Bool). k && nb) e
-nor_function false b na nb e f = ap (λ (k : Bool). k && nb) e ∙ f
+nor_function true b na nb e f = rw e
+nor_function false b na nb e f = rw (e, f)
 
 pub xor_function : (a b na nb : Bool) → na ≡ not a → nb ≡ not b → (not (a && b) && not (na && nb)) ≡ differ a b
-xor_function a b na nb e f = ap (λ (k : Bool). not (a && b) && not (k && nb)) e ∙ ap (λ (k : Bool). not (a && b) && not (not a && k)) f ∙ by_bits a b
-  where
-    by_bits : (x y : Bool) → (not (x && y) && not (not x && not y)) ≡ differ x y
-    by_bits true true = refl
-    by_bits true false = refl
-    by_bits false true = refl
-    by_bits false false = refl
+xor_function true true na nb e f = refl
+xor_function true false na nb e f = rw e
+xor_function false true na nb e f = rw (e, f)
+xor_function false false na nb e f = rw (e, f)
 
 pub mux_function : (a b c na : Bool) → na ≡ not a → not (not (a && b) && not (na && c)) ≡ cond a b c
-mux_function a b c na e = ap (λ (k : Bool). not (not (a && b) && not (k && c))) e ∙ by_bits a b c
-  where
-    by_bits : (x y z : Bool) → not (not (x && y) && not (not x && z)) ≡ cond x y z
-    by_bits true true z = refl
-    by_bits true false z = refl
-    by_bits false y true = refl
-    by_bits false y false = refl
+mux_function true true c na e = refl
+mux_function true false c na e = rw e
+mux_function false b true na e = rw e
+mux_function false b false na e = rw e

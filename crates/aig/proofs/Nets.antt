@@ -33,18 +33,10 @@ bit_carried l x = omega arith
 -- values of nets in an algebra
 module _ {X : Type 0} (A : Algebra X) where
   flips : (a b c : ℕ) (v : X) → ((a ≡ 0) ⊎ (a ≡ 1)) → ((b ≡ 0) ⊎ (b ≡ 1)) → c ≡ (a + b) % 2 → flip A.opposite a (flip A.opposite b v) ≡ flip A.opposite c v
-  flips a b c v (inl p) (inl q) e =
-      let z : c ≡ 0 = omega arith in
-      ap (λ (k : ℕ). flip A.opposite k (flip A.opposite b v)) p ∙ ap (λ (k : ℕ). flip A.opposite k v) q ∙ ap (λ (k : ℕ). flip A.opposite k v) (sym z)
-  flips a b c v (inl p) (inr q) e =
-      let z : c ≡ 1 = omega arith in
-      ap (λ (k : ℕ). flip A.opposite k (flip A.opposite b v)) p ∙ ap (λ (k : ℕ). flip A.opposite k v) q ∙ ap (λ (k : ℕ). flip A.opposite k v) (sym z)
-  flips a b c v (inr p) (inl q) e =
-      let z : c ≡ 1 = omega arith in
-      ap (λ (k : ℕ). flip A.opposite k (flip A.opposite b v)) p ∙ ap (λ (k : ℕ). flip A.opposite 1 (flip A.opposite k v)) q ∙ ap (λ (k : ℕ). flip A.opposite k v) (sym z)
-  flips a b c v (inr p) (inr q) e =
-      let z : c ≡ 0 = omega arith in
-      ap (λ (k : ℕ). flip A.opposite k (flip A.opposite b v)) p ∙ ap (λ (k : ℕ). flip A.opposite 1 (flip A.opposite k v)) q ∙ A.opposite_twice v ∙ ap (λ (k : ℕ). flip A.opposite k v) (sym z)
+  flips a b c v (inl p) (inl q) e = let z : c ≡ 0 = omega arith in rw (p, q, z)
+  flips a b c v (inl p) (inr q) e = let z : c ≡ 1 = omega arith in rw (p, q, z)
+  flips a b c v (inr p) (inl q) e = let z : c ≡ 1 = omega arith in rw (p, q, z)
+  flips a b c v (inr p) (inr q) e = let z : c ≡ 0 = omega arith in rw (p, q, z) (A.opposite_twice v)
 
   pub value_carried : (ρ : ℕ → X) (l x : ℕ) → flip A.opposite (x % 2) (net_at A ρ l) ≡ net_at A ρ (carried l x)
   value_carried ρ l x =
@@ -58,4 +50,4 @@ module _ {X : Type 0} (A : Algebra X) where
   value_twice ρ v =
       let e : 2 * v % 2 ≡ 0 = omega arith in
       let h : 2 * v / 2 ≡ v = omega arith in
-      ap (λ (k : ℕ). flip A.opposite k (ρ (2 * v / 2))) e ∙ ap ρ h
+      rw (e, h)

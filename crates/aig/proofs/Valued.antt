@@ -1,6 +1,7 @@
 -- the values of a table's vertices: they are the only ones that its gates allow
 use Rattle.std.proofs.Common.{◌≡◌, ℕ, zero, suc, ◌-◌, ◌/◌, ◌%◌, ◌<◌, ◌≤◌, Bool, false, not, ◌&&◌, List, length, sym, refl, ap, ◌∙◌, inl, inr, arith}
-use Rattle.std.proofs.lemmas.Bool.{cases_eq, cases_lt, eq-eqb, ne_eqb, le-leb, lt-leb, cond-true, cond-false}
+use Rattle.std.proofs.lemmas.Bool.{cases_eq, cases_lt}
+use Rattle.std.proofs.lemmas.Bool.Decides.{nat_tests}
 use Rattle.aig.specs.Table.{left_of, right_of}
 use Rattle.aig.specs.Nets.{flip, net_value}
 use Rattle.aig.specs.Values.{bit, value_by, value_in, vertex_value}
@@ -10,13 +11,13 @@ use Rattle.aig.specs.declared.vertex.Vertex.{Vertex}
 -- the three kinds of vertices
 module _ (n : ℕ) (t : List Vertex) (code : ℕ) (ρ : ℕ → Bool) where
   pub by_zero : (v : ℕ) → v ≡ 0 → value_by n t code ρ v ≡ false
-  by_zero v e = cond-true _ _ _ (eq-eqb v 0 e)
+  by_zero v e = grind (arith, nat_tests)
 
   pub by_input : (v : ℕ) → (v ≡ 0 → ⊥) → v ≤ n → value_by n t code ρ v ≡ bit code (v - 1)
-  by_input v e h = cond-false _ _ _ (ne_eqb v 0 e) ∙ cond-true _ _ _ (le-leb v n h)
+  by_input v e h = grind (arith, nat_tests)
 
   pub by_gate : (v : ℕ) → n < v → value_by n t code ρ v ≡ (net_value ρ (left_of t v) && net_value ρ (right_of t v))
-  by_gate v h = cond-false _ _ _ (ne_eqb v 0 (λ e. omega arith)) ∙ cond-false _ _ _ (lt-leb v n h)
+  by_gate v h = grind (arith, nat_tests)
 
 -- two valuations that agree on what `v` reads give it one value
 pub by_same : (n : ℕ) (t : List Vertex) (code : ℕ) (ρ σ : ℕ → Bool) (v : ℕ) → (n < v → (ρ (left_of t v / 2) ≡ σ (left_of t v / 2)) × (ρ (right_of t v / 2) ≡ σ (right_of t v / 2)))

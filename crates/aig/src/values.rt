@@ -45,7 +45,7 @@ impl Table<'_> {
     {
         // A loop over the places: each word is written from the words before it.
         for v in 0..self.vertices.len() {
-            words[v] = self.vertex_bit(words, v, code) as u64;
+            words[v] = u64::from(self.vertex_bit(words, v, code));
         }
     }
 }
