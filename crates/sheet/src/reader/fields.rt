@@ -69,7 +69,7 @@ impl<'a> Reader<'a> {
     {
         self.judged(
             |reader| reader.byte(),
-            |byte| low <= *byte && *byte <= high,
+            |byte| (low..=high).contains(byte),
             flaw,
         )
     }
@@ -80,7 +80,7 @@ impl<'a> Reader<'a> {
     {
         self.judged(
             |reader| reader.number(),
-            |number| low <= *number && *number <= high,
+            |number| (low..=high).contains(number),
             flaw,
         )
     }

@@ -1,6 +1,6 @@
 -- What is left to show of `writer::Outputs::close`, beyond what the search finds.
 use Rattle.std.proofs.Common.{length, refl, arith}
-use Rattle.std.proofs.lemmas.Bool.{le-leb, lt-leb}
+use Rattle.std.proofs.lemmas.Bool.{le-leb}
 use Rattle.sheet.proofs.Writing.{held, closed}
 use Rattle.sheet.proofs.writer.Outputs.close.Goals as goal
 
@@ -10,8 +10,5 @@ returns c = record {
   refusal = simp (le-leb c.args.self.end (length c.args.place.now) (omega (arith, c.if-place-self.false)));
 }
 
-pub returns-then-place-self : goal.returns-then-place-self
-returns-then-place-self c = record {
-  state = (refl, λ b d h. omega (arith, (held b c.args.place.now c.args.self d h).ends, c.if-place-self.true));
-  refusal = simp (lt-leb c.args.self.end (length c.args.place.now) (omega (arith, c.if-place-self.true)));
-}
+pub returns-then-place-self-clause-state : goal.returns-then-place-self-clause-state
+returns-then-place-self-clause-state c = rw c.refuse.ensures (refl, λ b d h. omega (arith, (held b c.args.place.now c.args.self d h).ends, c.if-place-self.true))
