@@ -57,12 +57,7 @@ impl Closed {
     pub fn bytes(self, place: &[u8]) -> &[u8]
         ensures { result.now ≡ take self.size place.now }
     {
-        let size = self.size;
-        if size < place.len() {
-            &place[0..size]
-        } else {
-            place
-        }
+        place.get(..self.size).unwrap_or(place)
     }
 
     /// Reads the sheet back: it says what the writer was given.
