@@ -7,9 +7,6 @@ use Rattle.sheet.specs.View.{Step}
 use Rattle.sheet.proofs.Loops.{SoFar, none, more, all, stopped}
 use Rattle.sheet.proofs.reader.Reader.gates.Goals as goal
 
-pub loop-k-init : goal.loop-k-init
-loop-k-init c = none (next_gate c.args.inputs) _
-
 pub loop-k-preserved : goal.loop-k-preserved
 loop-k-preserved c =
     let P : ℕ → Type 0 = λ n. Step (gate (c.args.inputs + 2 + n)) c.loop-k.self (Ok c.in_ok-gate.field-0) c.gate.new.self in

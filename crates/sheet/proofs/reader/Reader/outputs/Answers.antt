@@ -9,9 +9,6 @@ use Rattle.sheet.proofs.Loops.{SoFar, none, more, all, stopped}
 use Rattle.sheet.proofs.Skims.{earlier_names}
 use Rattle.sheet.proofs.reader.Reader.outputs.Goals as goal
 
-pub loop-k-init : goal.loop-k-init
-loop-k-init c = none (next_output c.args.signals) _
-
 pub loop-k-preserved : goal.loop-k-preserved
 loop-k-preserved c =
     let same = earlier_names c.args.signals c.loop-k.k c.number_within.new.self c.loop-k.self c.loop-k.invariant c.new.result (c.new.ensures.0 ∙ c.bytes_from-records.ensures) c.new.ensures.1 in

@@ -9,6 +9,3 @@ returns c = record {
   state = (refl, λ b d h. closed b c.args.place.now c.args.self _ d refl h);
   refusal = simp (le-leb c.args.self.end (length c.args.place.now) (omega (arith, c.if-place-self.false)));
 }
-
-pub returns-then-place-self-clause-state : goal.returns-then-place-self-clause-state
-returns-then-place-self-clause-state c = rw c.refuse.ensures (refl, λ b d h. omega (arith, (held b c.args.place.now c.args.self d h).ends, c.if-place-self.true))
