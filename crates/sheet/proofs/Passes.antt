@@ -27,31 +27,15 @@ pub counted_got : {X : Type 0} (o : Read Wrong (List X)) (n : ℕ) (rest : List 
 counted_got (got xs ys) n rest e = record { list = xs; long = (cc); is = (let r : ys ≡ rest = cc in cc) }
 counted_got (bad w) n rest e = absurd (never (sym e))
 
-pub counted_bad : {X : Type 0} (o : Read Wrong (List X)) (w : Wrong) → bad w ≡ counted o → o ≡ bad w
-counted_bad (got xs ys) w e = absurd (never e)
-counted_bad (bad v) w e = let same : v ≡ w = cc in cc
-
 pub fails : (bs : List ℕ) (w : Wrong) (s p : ℕ) → sheet bs ≡ bad (record { section = s; wrong = w }) → w.left ≡ length bs - p → p ≤ length bs → decode bs ≡ fault (number_of w.flaw) s p
 fails bs w s p e l h =
     let q : length bs - w.left ≡ p = omega arith in
     ap (placed (length bs)) e ∙ ap (fault (number_of w.flaw) s) q
 
 module _ (bs : List ℕ) where
-  pub bad_0 : (w : Wrong) → edition bs ≡ bad w → sheet bs ≡ bad (record { section = 0; wrong = w })
-  bad_0 w e = broken _ (ap (within 0) e)
-
   module _ (v : ℕ) (xs₁ : List ℕ) (e₀ : edition bs ≡ got v xs₁) where
-    pub bad_1 : (w : Wrong) → input_section xs₁ ≡ bad w → sheet bs ≡ bad (record { section = 1; wrong = w })
-    bad_1 w e = chain _ (ap (within 0) e₀) (broken _ (ap (within 1) e))
-
     module _ (i : ℕ) (xs₂ : List ℕ) (e₁ : input_section xs₁ ≡ got i xs₂) where
-      pub bad_2 : (w : Wrong) → gate_section i xs₂ ≡ bad w → sheet bs ≡ bad (record { section = 2; wrong = w })
-      bad_2 w e = chain _ (ap (within 0) e₀) (chain _ (ap (within 1) e₁) (broken _ (ap (within 2) e)))
-
       module _ (gs : List Gate) (xs₃ : List ℕ) (e₂ : gate_section i xs₂ ≡ got gs xs₃) where
-        pub bad_3 : (w : Wrong) → output_section (i + 2 + length gs) xs₃ ≡ bad w → sheet bs ≡ bad (record { section = 3; wrong = w })
-        bad_3 w e = chain _ (ap (within 0) e₀) (chain _ (ap (within 1) e₁) (chain _ (ap (within 2) e₂) (broken _ (ap (within 3) e))))
-
         module _ (os : List Output) (xs₄ : List ℕ) (e₃ : output_section (i + 2 + length gs) xs₃ ≡ got os xs₄) where
           pub bad_4 : (w : Wrong) → end xs₄ ≡ bad w → sheet bs ≡ bad (record { section = 0; wrong = w })
           bad_4 w e = chain _ (ap (within 0) e₀) (chain _ (ap (within 1) e₁) (chain _ (ap (within 2) e₂) (chain _ (ap (within 3) e₃) (broken _ (ap (within 0) e)))))

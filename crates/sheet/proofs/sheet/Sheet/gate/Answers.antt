@@ -2,7 +2,7 @@
 use Rattle.std.proofs.Common.{length, ap, subst, arith}
 use Rattle.sheet.specs.Record.{Seven}
 use Rattle.sheet.specs.Sections.{said}
-use Rattle.sheet.proofs.Parts.{says_said, no_gate, gate_item, gate_there}
+use Rattle.sheet.proofs.Parts.{says_said, gate_item, gate_there}
 use Rattle.sheet.proofs.sheet.Sheet.gate.Goals as goal
 
 pub returns : goal.returns

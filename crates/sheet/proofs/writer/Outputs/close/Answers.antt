@@ -1,7 +1,7 @@
 -- What is left to show of `writer::Outputs::close`, beyond what the search finds.
 use Rattle.std.proofs.Common.{length, refl, arith}
 use Rattle.std.proofs.lemmas.Bool.{le-leb}
-use Rattle.sheet.proofs.Writing.{held, closed}
+use Rattle.sheet.proofs.Writing.{closed}
 use Rattle.sheet.proofs.writer.Outputs.close.Goals as goal
 
 pub returns : goal.returns
