@@ -15,7 +15,6 @@ use Rattle.sheet.specs.Laws.{EachFits, GateFits, NextGateFits, OutputFits, NextO
 use Rattle.sheet.specs.Refusals.{gate_refusal, first_output_refusal, output_refusal}
 use Rattle.sheet.specs.Sections.{item}
 use Rattle.sheet.specs.Written.{gates_end, outputs_start, HoldsGates, HoldsOutputs, WroteGate, WroteOutput}
-use Rattle.sheet.proofs.Flawed.{flaw_none}
 use Rattle.sheet.proofs.Parts.{item_at}
 use Rattle.sheet.proofs.Writing.{encode_long}
 
@@ -64,7 +63,7 @@ taken : {X : Type 0} (xs : List X) (k : ℕ) (x : X) → k < length xs → Some 
 taken xs k x h e = ap (λ y. take k xs ++ y ∷ []) (item_is xs k x h e) ∙ sym (take_more xs k x h)
 
 unless_some : {X : Type 0} (b : Bool) (x e : X) → Some e ≡ unless b x → (e ≡ x) × (b ≡ false)
-unless_some true x e p = absurd (let z : ◌≡◌ {A = ℕ} 0 1 = cc in omega arith)
+unless_some true x e p = absurd (cc)
 unless_some false x e p = ((cc), refl)
 
 only_full : (n room : ℕ) (e : Refusal) → Some e ≡ unless (leb n room) Full → (e ≡ Full) × (room < n)
@@ -74,6 +73,9 @@ few : (low high n : ℕ) → between low high n ≡ true → n ≤ high
 few low high n e = leb-true n high (and_parts (leb low n) (leb n high) e).1
 
 -- gates
+flaw_none : (own : ℕ) (g : Gate) → GateFits own g → None ≡ gate_flaw own g
+flaw_none own g f = simp (f.kind, f.a, f.b, f.c)
+
 gate_fits : (c : Content) (k : ℕ) (w : Gates) (g : Gate) → Lawful c → k < length c.gates → Some g ≡ item c.gates k → w.inputs ≡ c.inputs → w.gates ≡ k → GateFits (w.inputs + 2 + w.gates) g
 gate_fits c k w g l h e i n =
     let f = fits_at (NextGateFits c.inputs) [] c.gates k g l.gates h in

@@ -116,7 +116,7 @@ ahead_more w v (o ∷ os) p ys z s e l a =
     let q = split_is w.rest.now o p (flat_map output_bytes os) ys a.is s in
     record { is = e ∙ q.1; count = omega (arith, l, a.count) }
 
-gates_long : (gs : List Gate) → length (flat_map gate_bytes gs) ≡ 7 * length gs
+pub gates_long : (gs : List Gate) → length (flat_map gate_bytes gs) ≡ 7 * length gs
 gates_long [] = refl
 gates_long (g ∷ gs) = let r = gates_long gs in omega arith
 

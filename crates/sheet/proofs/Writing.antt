@@ -4,7 +4,7 @@ use Rattle.sheet.specs.declared.fault.Flaw.{Flaw}
 use Rattle.sheet.specs.declared.fault.Flaw.TheVariants.{Name, Signal}
 use Rattle.sheet.specs.declared.output_records.OutputRecords.{OutputRecords}
 use Rattle.sheet.specs.Ahead.{outputs_in, outputs_ahead}
-use Rattle.sheet.proofs.Parts.{outputs_back}
+use Rattle.sheet.proofs.Parts.{outputs_back, gates_long}
 use Rattle.std.specs.List.{flat_map}
 use Rattle.std.proofs.lemmas.List.{drop-drop, length-append, length_push, take_at, drop_at, flat_map_more, length-take-le}
 use Rattle.std.proofs.lemmas.Bool.Decides.{nat_tests}
@@ -31,10 +31,6 @@ put_after p t bs xs at e l =
 pub each_push : {X : Type 0} (Fits : List X → X → Type 0) (done xs : List X) (x : X) → EachFits Fits done xs → Fits (done ++ xs) x → EachFits Fits done (xs ++ x ∷ [])
 each_push Fits done [] x f h = (subst (λ l. Fits l x) (append-nil done) h, tt)
 each_push Fits done (y ∷ xs) x f h = (f.0, each_push Fits (done ++ y ∷ []) xs x f.1 (subst (λ l. Fits l x) (sym (append_assoc done (y ∷ []) xs)) h))
-
-gates_long : (gs : List Gate) → length (flat_map gate_bytes gs) ≡ 7 * length gs
-gates_long [] = refl
-gates_long (g ∷ gs) = let r = gates_long gs in omega arith
 
 -- what lies behind a record that is written
 behind : (n m k : ℕ) (before : List ℕ) → n + m ≡ k → drop m (drop n before) ≡ drop k before
@@ -124,9 +120,9 @@ start_outputs place after w v o si sg so se fits e before gs h =
 
 flaw_parts : (a b d : Bool) → first_some (unless a Signal) (first_some (unless b Name) (unless d Name)) ≡ None → (a ≡ true) × (b ≡ true) × (d ≡ true)
 flaw_parts true true true e = (refl, refl, refl)
-flaw_parts true true false e = absurd (let z : ◌≡◌ {A = ℕ} 0 1 = cc in omega arith)
-flaw_parts true false d e = absurd (let z : ◌≡◌ {A = ℕ} 0 1 = cc in omega arith)
-flaw_parts false b d e = absurd (let z : ◌≡◌ {A = ℕ} 0 1 = cc in omega arith)
+flaw_parts true true false e = absurd (cc)
+flaw_parts true false d e = absurd (cc)
+flaw_parts false b d e = absurd (cc)
 
 pub no_flaw : (signals : ℕ) (earlier : List (List ℕ)) (o : Output) → output_flaw signals earlier o ≡ None → OutputFits signals earlier o
 no_flaw signals earlier o e = let p = flaw_parts (ltb o.signal signals) (between 1 16 (length o.name)) (name_fits earlier o.name) e in record { signal = p.0; long = p.1; name = p.2 }
