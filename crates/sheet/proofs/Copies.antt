@@ -7,18 +7,14 @@ use Rattle.gates.specs.Kinds.{between}
 use Rattle.sheet.specs.declared.gate.Gate.{Gate}
 use Rattle.sheet.specs.declared.refusal.Refusal.{Refusal}
 use Rattle.sheet.specs.declared.refusal.Refusal.TheVariants.{Full}
-use Rattle.sheet.specs.declared.sheet.Sheet.{Sheet}
-use Rattle.sheet.specs.declared.writer.Closed.{Closed}
 use Rattle.sheet.specs.declared.writer.Gates.{Gates}
 use Rattle.sheet.specs.declared.writer.Outputs.{Outputs}
-use Rattle.sheet.specs.Closing.{HoldsSheet}
 use Rattle.sheet.specs.Flaws.{unless, gate_flaw, output_flaw}
 use Rattle.sheet.specs.Format.{Content, Output, output_bytes, encode, names}
 use Rattle.sheet.specs.Laws.{EachFits, GateFits, NextGateFits, OutputFits, NextOutputFits, Lawful}
 use Rattle.sheet.specs.Refusals.{gate_refusal, first_output_refusal, output_refusal}
-use Rattle.sheet.specs.Sections.{said, item}
-use Rattle.sheet.specs.Written.{gates_end, outputs_start, HoldsGates, HoldsOutputs, WroteGate, WroteFirst, WroteOutput}
-use Rattle.sheet.proofs.Flawed.{flaw_none}
+use Rattle.sheet.specs.Sections.{item}
+use Rattle.sheet.specs.Written.{gates_end, outputs_start, HoldsGates, HoldsOutputs, WroteGate, WroteOutput}
 use Rattle.sheet.proofs.Parts.{item_at}
 use Rattle.sheet.proofs.Writing.{encode_long}
 
@@ -67,7 +63,7 @@ taken : {X : Type 0} (xs : List X) (k : ℕ) (x : X) → k < length xs → Some 
 taken xs k x h e = ap (λ y. take k xs ++ y ∷ []) (item_is xs k x h e) ∙ sym (take_more xs k x h)
 
 unless_some : {X : Type 0} (b : Bool) (x e : X) → Some e ≡ unless b x → (e ≡ x) × (b ≡ false)
-unless_some true x e p = absurd (let z : ◌≡◌ {A = ℕ} 0 1 = cc in omega arith)
+unless_some true x e p = absurd (cc)
 unless_some false x e p = ((cc), refl)
 
 only_full : (n room : ℕ) (e : Refusal) → Some e ≡ unless (leb n room) Full → (e ≡ Full) × (room < n)
@@ -77,6 +73,9 @@ few : (low high n : ℕ) → between low high n ≡ true → n ≤ high
 few low high n e = leb-true n high (and_parts (leb low n) (leb n high) e).1
 
 -- gates
+flaw_none : (own : ℕ) (g : Gate) → GateFits own g → None ≡ gate_flaw own g
+flaw_none own g f = simp (f.kind, f.a, f.b, f.c)
+
 gate_fits : (c : Content) (k : ℕ) (w : Gates) (g : Gate) → Lawful c → k < length c.gates → Some g ≡ item c.gates k → w.inputs ≡ c.inputs → w.gates ≡ k → GateFits (w.inputs + 2 + w.gates) g
 gate_fits c k w g l h e i n =
     let f = fits_at (NextGateFits c.inputs) [] c.gates k g l.gates h in
@@ -99,11 +98,6 @@ full_at_gate before place c k w g e l h i same holds r =
     let is : gate_refusal (length place) w g ≡ unless (leb (gates_end w.gates + 7) (length place)) Full = simp (lt-ltb w.gates 600 small, none) in
     let q = only_full (gates_end w.gates + 7) (length place) e (r ∙ is) in
     (q.0, omega (arith, q.1, n, gate_room c k h))
-
-pub no_gates_yet : (before place : List ℕ) (c : Content) (ahead : List Gate) (w : Gates) → ahead ≡ c.gates → w.inputs ≡ c.inputs → HoldsGates before place w [] → GatesSoFar before c ahead place w
-no_gates_yet before place c ahead w a i h =
-    let z : 0 ≡ w.gates = h.many in
-    record { inputs = i; holds = subst (HoldsGates before place w) (ap (λ n. take n c.gates) z) h; rest = a ∙ ap (λ n. drop n c.gates) z }
 
 pub one_more_gate : (before place after : List ℕ) (c : Content) (ahead rest : List Gate) (w v : Gates) (g : Gate) → GatesSoFar before c ahead place w → ahead ≡ g ∷ rest → WroteGate place w g v after → GatesSoFar before c rest after v
 one_more_gate before place after c ahead rest w v g s e wrote =
@@ -151,20 +145,6 @@ output_room c k o h e =
     let t = ap (λ os. length (flat_map output_bytes os)) (taken c.outputs k o h e) in
     omega (arith, encode_long c, encode_long (with_outputs c k), joined_push (take k c.outputs) o, t, joined_part c.outputs (k + 1))
 
-pub some_outputs : (c : Content) → Lawful c → 0 < length c.outputs
-some_outputs c l = leb-true 1 (length c.outputs) (and_parts (leb 1 (length c.outputs)) (leb (length c.outputs) 256) l.few_outputs).0
-
-pub one_output : (before place after : List ℕ) (c : Content) (ahead rest : List Output) (w : Gates) (o : Output) (v : Outputs) → ahead ≡ c.outputs → ahead ≡ o ∷ rest → w.inputs ≡ c.inputs → HoldsGates before place w c.gates
-    → WroteFirst place w o v after → OutputsSoFar before c rest after v
-one_output before place after c ahead rest w o v a e same holds wrote =
-    let t = turn c.outputs 0 o rest (sym e ∙ a) in
-    let one : o ∷ [] ≡ take 1 c.outputs = taken c.outputs 0 o t.inside t.item in
-    let held : HoldsOutputs before after v (with_outputs c 1) = subst (HoldsOutputs before after v) (λ i. record { inputs = same i; gates = c.gates; outputs = one i }) (wrote.holds before c.gates holds) in
-    record {
-      holds = subst (λ n. HoldsOutputs before after v (with_outputs c n)) (sym wrote.outputs) held;
-      rest = t.others ∙ ap (λ n. drop n c.outputs) (sym wrote.outputs);
-    }
-
 pub no_room_for_first : (before place : List ℕ) (c : Content) (ahead rest : List Output) (w : Gates) (o : Output) (e : Refusal) → Lawful c → ahead ≡ c.outputs → ahead ≡ o ∷ rest → w.inputs ≡ c.inputs → HoldsGates before place w c.gates
     → Some e ≡ first_output_refusal (length place) w o → (e ≡ Full) × (length place < length (encode c))
 no_room_for_first before place c ahead rest w o e l a n same holds r =
@@ -206,9 +186,3 @@ pub all_outputs : (before place : List ℕ) (c : Content) (ahead : List Output) 
 all_outputs before place c ahead w s e =
     let all = take_all w.outputs c.outputs (over c.outputs w.outputs (sym e ∙ s.rest)) in
     subst (HoldsOutputs before place w) (λ i. record { inputs = c.inputs; gates = c.gates; outputs = all i }) s.holds
-
-pub copy_is : (before place : List ℕ) (s : Sheet) (w : Outputs) (v : Closed) → HoldsOutputs before place w (said s)
-    → ((b : List ℕ) (d : Content) → HoldsOutputs b place w d → HoldsSheet b place v d) → (take v.size place ≡ s.bytes.now) × (place ≡ s.bytes.now ++ drop v.size before)
-copy_is before place s w v holds closes =
-    let h = closes before (said s) holds in
-    (h.is ∙ s.again, h.behind ∙ ap (λ l. l ++ drop v.size before) s.again)

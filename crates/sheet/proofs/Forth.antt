@@ -8,7 +8,7 @@ use Rattle.sheet.specs.Reading.{Read, got, bad, and_then, Wrong, byte, number, b
 use Rattle.sheet.specs.Format.{number_bytes, gate_bytes, gate, next_gate, Content, content, Placed, sheet, edition, input_section, gate_section, output_section, end, Output, output, next_output, names, output_bytes, name_fits, placed, within, encode, operand, operand_fits, operand_flaw}
 use Rattle.gates.specs.Kinds.{between, reads_b, reads_c}
 use Rattle.sheet.specs.Laws.{GateFits, NextGateFits, EachFits, OutputFits, NextOutputFits, Lawful, Bytes, WritesWhatIsRead}
-use Rattle.sheet.proofs.Fields.{parts, judged_got, byte_got, number_got, bytes_got, never, every_past, got_same}
+use Rattle.sheet.proofs.Fields.{parts, judged_got, byte_got, number_got, bytes_got, every_past, got_same}
 
 pub record NumberField (ok : ℕ → Bool) (xs : List ℕ) (n : ℕ) (ys : List ℕ) : Type 0 where
   pub split : xs ≡ number_bytes n ++ ys
@@ -109,15 +109,15 @@ module _ {X : Type 0} (next : List X → List ℕ → Read Wrong X) (bytes_of : 
 
 within_got : {X : Type 0} (s : ℕ) (o : Read Wrong X) (x : X) (ys : List ℕ) → within s o ≡ got x ys → o ≡ got x ys
 within_got s (got z zs) x ys e = let a : z ≡ x = cc in let b : zs ≡ ys = cc in cc
-within_got s (bad w) x ys e = absurd (never e)
+within_got s (bad w) x ys e = absurd (cc)
 
 end_got : (xs : List ℕ) (z : ℕ) (ys : List ℕ) → end xs ≡ got z ys → xs ≡ []
 end_got [] z ys e = refl
-end_got (x ∷ xs) z ys e = absurd (never e)
+end_got (x ∷ xs) z ys e = absurd (cc)
 
 content_got : (n : ℕ) (o : Read Placed Content) (c : Content) → placed n o ≡ content c → (rest : List ℕ) × (o ≡ got c rest)
 content_got n (got d rest) c e = let same : d ≡ c = cc in (rest, (cc))
-content_got n (bad w) c e = absurd (let z : ◌≡◌ {A = ℕ} 0 1 = cc in omega arith)
+content_got n (bad w) c e = absurd (cc)
 
 -- a section of records: its count, and then they
 module _ {X : Type 0} (next : List X → List ℕ → Read Wrong X) (bytes_of : X → List ℕ) (Fits : List X → X → Type 0)

@@ -1,23 +1,22 @@
 -- The parts of a sheet without fault.
-use Rattle.std.proofs.Common.{◌≡◌, ℕ, zero, suc, ◌+◌, ◌-◌, ◌*◌, ◌<◌, ◌≤◌, List, [], ◌∷◌, ◌++◌, length, get_or, take, drop, Some, None, Option, slice_get, Bool, true, false, ◌&&◌, leb, sym, refl, ap, ◌∙◌, subst, append_assoc, append-nil, arith}
+use Rattle.std.proofs.Common.{◌≡◌, ℕ, zero, suc, ◌+◌, ◌-◌, ◌*◌, ◌<◌, ◌≤◌, List, [], ◌∷◌, ◌++◌, length, get_or, take, drop, Some, None, Option, slice_get, true, sym, refl, ap, ◌∙◌, subst, append_assoc, append-nil, arith}
 use Rattle.std.specs.List.{flat_map}
 use Rattle.std.proofs.lemmas.List.{drop-drop, length-append, drop_at, take_at}
 use Rattle.sheet.specs.declared.gate.Gate.{Gate}
 use Rattle.sheet.specs.declared.shape.Shape.{Shape}
 use Rattle.sheet.specs.Format.{Content, encode, decode, gate_bytes, number_bytes, output_bytes, Output}
-use Rattle.std.proofs.lemmas.Bool.{lt-leb, le-leb, leb-true, cond-true, cond-false}
+use Rattle.std.proofs.lemmas.Bool.{le-leb, cond-true}
 use Rattle.sheet.specs.Record.{Seven}
 use Rattle.sheet.specs.Sections.{GivesNext, BytesSay, Says, said, Ahead, item, output_in}
 use Rattle.std.specs.Option.{option_map}
 use Rattle.std.proofs.lemmas.Iterator.{YieldsList}
 use Rattle.std.proofs.lemmas.Iterator.Consumers.{YieldsList-from_shown}
 use Rattle.sheet.specs.declared.output.OutputRecord.{OutputRecord}
-use Rattle.sheet.specs.Said.{content_in}
 use Rattle.sheet.specs.Ahead.{gate_at, gates_in, gates_ahead, whole_output, output_at, outputs_in, outputs_ahead}
 use Rattle.sheet.specs.declared.gate_records.GateRecords.{GateRecords}
 use Rattle.sheet.specs.declared.sheet.Sheet.{Sheet}
 use Rattle.sheet.proofs.Back.{decode_encode}
-use Rattle.sheet.specs.Names.{Split, CutOff, output_of}
+use Rattle.sheet.specs.Names.{Split, output_of}
 use Rattle.sheet.specs.declared.output_records.OutputRecords.{OutputRecords}
 use Rattle.sheet.proofs.Fields.{whole_number}
 
@@ -48,22 +47,8 @@ item_at [] k d h = absurd (omega arith)
 item_at (x ∷ xs) zero d h = refl
 item_at (x ∷ xs) (suc k) d h = item_at xs k d (omega arith)
 
-pub item_past : {X : Type 0} (xs : List X) (k : ℕ) → length xs ≤ k → None ≡ item xs k
-item_past [] k h = refl
-item_past (x ∷ xs) zero h = absurd (omega arith)
-item_past (x ∷ xs) (suc k) h = item_past xs k (omega arith)
-
-pub item_drop : {X : Type 0} (xs : List X) (k : ℕ) → item (drop k xs) 0 ≡ item xs k
-item_drop [] zero = refl
-item_drop [] (suc k) = refl
-item_drop (x ∷ xs) zero = refl
-item_drop (x ∷ xs) (suc k) = item_drop xs k
-
 many_gates : (bs : List ℕ) (s : Shape) (c : Content) → BytesSay bs s c → s.gates ≡ length c.gates
 many_gates bs s c a = ap (λ t. t.gates) a.shape
-
-pub no_gate : (bs : List ℕ) (s : Shape) (c : Content) (k : ℕ) → s.gates ≤ k → BytesSay bs s c → None ≡ item c.gates k
-no_gate bs s c k h a = item_past c.gates k (omega (arith, many_gates bs s c a))
 
 pub gate_item : (bs : List ℕ) (s : Shape) (c : Content) (k : ℕ) (g : Gate) → k < s.gates → Seven (drop (5 + 7 * k) bs) g → BytesSay bs s c → Some g ≡ item c.gates k
 gate_item bs s c k g h sv a =
@@ -79,11 +64,6 @@ gate_there bs s c k h short a =
     let l : 7 ≤ length (gate_bytes (get_or c.gates k d) ++ g.rest) = omega arith in
     omega (arith, ap length g.is)
 
--- the next gate of a walk, and what then lies ahead
-pub short_gates : (n : ℕ) (xs : List ℕ) → length xs < 7 → gates_in n xs ≡ []
-short_gates zero xs h = refl
-short_gates (suc n) xs h = cond-false _ _ _ (lt-leb 7 (length xs) h)
-
 pub first_gate : (n m : ℕ) (xs : List ℕ) (g : Gate) (ys : List ℕ) → n ≡ suc m → Seven xs g → ys ≡ drop 7 xs → gates_in n xs ≡ g ∷ gates_in m ys
 first_gate n m xs g ys e s r =
     let same : gate_at xs ≡ g = λ i. record { kind = sym s.kind i; a = sym s.a i; b = sym s.b i; c = sym s.c i } in
@@ -95,16 +75,6 @@ seven_bytes g zs = record { long = omega arith; kind = refl; a = sym (whole_numb
 pub gates_back : (gs : List Gate) (ys : List ℕ) → gates_in (length gs) (flat_map gate_bytes gs ++ ys) ≡ gs
 gates_back [] ys = refl
 gates_back (g ∷ gs) ys = first_gate (length (g ∷ gs)) (length gs) (flat_map gate_bytes (g ∷ gs) ++ ys) g (flat_map gate_bytes gs ++ ys) refl (seven_bytes g (flat_map gate_bytes gs ++ ys)) refl ∙ ap (λ l. g ∷ l) (gates_back gs ys)
-
--- the next output of a walk, and what then lies ahead
-cut_at : (b d : Bool) (xs : List ℕ) → leb 3 (length xs) ≡ b → leb (get_or xs 2 0) (length (drop 3 xs)) ≡ d → CutOff xs → (b && d) ≡ false
-cut_at false d xs e f cut = refl
-cut_at true false xs e f cut = refl
-cut_at true true xs e f cut = absurd (cut (leb-true _ _ e) (leb-true _ _ f))
-
-pub cut_outputs : (n : ℕ) (xs : List ℕ) → CutOff xs → outputs_in n xs ≡ []
-cut_outputs zero xs cut = refl
-cut_outputs (suc n) xs cut = cond-false _ _ _ (cut_at _ _ xs refl refl cut)
 
 pub first_output : (n m : ℕ) (xs : List ℕ) (o : Output) (ys : List ℕ) → n ≡ suc m → Split xs o ys → outputs_in n xs ≡ o ∷ outputs_in m ys
 first_output n m xs o ys e s =
@@ -140,17 +110,13 @@ split_is xs o p ys zs e s =
     let name : p.name ≡ o.name = s.name ∙ (λ i. take (size i) (tail i)) ∙ take_at o.name ys _ refl in
     ((λ i. record { signal = sig i; name = name i }), s.rest ∙ (λ i. drop (size i) (tail i)) ∙ drop_at o.name ys _ refl)
 
-pub ahead_none : (w : OutputRecords) (os : List Output) → outputs_ahead w ≡ [] → Ahead w os → Ahead w (drop 1 os)
-ahead_none w [] e a = a
-ahead_none w (o ∷ os) e a = absurd (let z : o ∷ os ≡ [] = sym (ahead_is w (o ∷ os) a) ∙ e in cc)
-
 pub ahead_more : (w v : OutputRecords) (os : List Output) (p : Output) (ys : List ℕ) → (w.left ≡ 0 → ⊥) → Split w.rest.now p ys → v.rest.now ≡ ys → v.left ≡ w.left - 1 → Ahead w os → Ahead v (drop 1 os)
 ahead_more w v [] p ys z s e l a = absurd (z (sym a.count))
 ahead_more w v (o ∷ os) p ys z s e l a =
     let q = split_is w.rest.now o p (flat_map output_bytes os) ys a.is s in
     record { is = e ∙ q.1; count = omega (arith, l, a.count) }
 
-gates_long : (gs : List Gate) → length (flat_map gate_bytes gs) ≡ 7 * length gs
+pub gates_long : (gs : List Gate) → length (flat_map gate_bytes gs) ≡ 7 * length gs
 gates_long [] = refl
 gates_long (g ∷ gs) = let r = gates_long gs in omega arith
 
@@ -175,9 +141,6 @@ says_said s = record {
   lawful = s.lawful;
   again = s.again;
 }
-
-pub said_is : (s : Sheet) (c : Content) → Says s c → said s ≡ c
-said_is s c h = ap content_in h.decodes
 
 pub gates_of : (bs : List ℕ) (s : Shape) (c : Content) (w : GateRecords) → w.rest.now ≡ drop 5 bs → w.left ≡ s.gates → BytesSay bs s c → gates_ahead w ≡ c.gates
 gates_of bs s c w r l a =

@@ -15,7 +15,7 @@ use Rattle.sheet.specs.View.{left, counted, Step, StepBy}
 use Rattle.sheet.specs.Sections.{Accepted}
 use Rattle.sheet.specs.Laws.{Bytes}
 use Rattle.sheet.proofs.Forth.{encode_decode}
-use Rattle.sheet.proofs.Fields.{chain, never, parts, judged_got}
+use Rattle.sheet.proofs.Fields.{chain, parts, judged_got}
 use Rattle.sheet.proofs.Loops.{broken}
 
 pub record Counted {X : Type 0} (o : Read Wrong (List X)) (n : ℕ) (rest : List ℕ) : Type 0 where
@@ -25,39 +25,21 @@ pub record Counted {X : Type 0} (o : Read Wrong (List X)) (n : ℕ) (rest : List
 
 pub counted_got : {X : Type 0} (o : Read Wrong (List X)) (n : ℕ) (rest : List ℕ) → got n rest ≡ counted o → Counted o n rest
 counted_got (got xs ys) n rest e = record { list = xs; long = (cc); is = (let r : ys ≡ rest = cc in cc) }
-counted_got (bad w) n rest e = absurd (never (sym e))
-
-pub counted_bad : {X : Type 0} (o : Read Wrong (List X)) (w : Wrong) → bad w ≡ counted o → o ≡ bad w
-counted_bad (got xs ys) w e = absurd (never e)
-counted_bad (bad v) w e = let same : v ≡ w = cc in cc
+counted_got (bad w) n rest e = absurd (cc)
 
 pub fails : (bs : List ℕ) (w : Wrong) (s p : ℕ) → sheet bs ≡ bad (record { section = s; wrong = w }) → w.left ≡ length bs - p → p ≤ length bs → decode bs ≡ fault (number_of w.flaw) s p
 fails bs w s p e l h =
     let q : length bs - w.left ≡ p = omega arith in
     ap (placed (length bs)) e ∙ ap (fault (number_of w.flaw) s) q
 
-module _ (bs : List ℕ) where
-  pub bad_0 : (w : Wrong) → edition bs ≡ bad w → sheet bs ≡ bad (record { section = 0; wrong = w })
-  bad_0 w e = broken _ (ap (within 0) e)
+-- all sections were read, up to the bytes that are left
+module _ (bs : List ℕ) (v : ℕ) (xs₁ : List ℕ) (e₀ : edition bs ≡ got v xs₁) (i : ℕ) (xs₂ : List ℕ) (e₁ : input_section xs₁ ≡ got i xs₂) (gs : List Gate) (xs₃ : List ℕ) (e₂ : gate_section i xs₂ ≡ got gs xs₃)
+    (os : List Output) (xs₄ : List ℕ) (e₃ : output_section (i + 2 + length gs) xs₃ ≡ got os xs₄) where
+  not_ended : (w : Wrong) → end xs₄ ≡ bad w → sheet bs ≡ bad (record { section = 0; wrong = w })
+  not_ended w e = chain _ (ap (within 0) e₀) (chain _ (ap (within 1) e₁) (chain _ (ap (within 2) e₂) (chain _ (ap (within 3) e₃) (broken _ (ap (within 0) e)))))
 
-  module _ (v : ℕ) (xs₁ : List ℕ) (e₀ : edition bs ≡ got v xs₁) where
-    pub bad_1 : (w : Wrong) → input_section xs₁ ≡ bad w → sheet bs ≡ bad (record { section = 1; wrong = w })
-    bad_1 w e = chain _ (ap (within 0) e₀) (broken _ (ap (within 1) e))
-
-    module _ (i : ℕ) (xs₂ : List ℕ) (e₁ : input_section xs₁ ≡ got i xs₂) where
-      pub bad_2 : (w : Wrong) → gate_section i xs₂ ≡ bad w → sheet bs ≡ bad (record { section = 2; wrong = w })
-      bad_2 w e = chain _ (ap (within 0) e₀) (chain _ (ap (within 1) e₁) (broken _ (ap (within 2) e)))
-
-      module _ (gs : List Gate) (xs₃ : List ℕ) (e₂ : gate_section i xs₂ ≡ got gs xs₃) where
-        pub bad_3 : (w : Wrong) → output_section (i + 2 + length gs) xs₃ ≡ bad w → sheet bs ≡ bad (record { section = 3; wrong = w })
-        bad_3 w e = chain _ (ap (within 0) e₀) (chain _ (ap (within 1) e₁) (chain _ (ap (within 2) e₂) (broken _ (ap (within 3) e))))
-
-        module _ (os : List Output) (xs₄ : List ℕ) (e₃ : output_section (i + 2 + length gs) xs₃ ≡ got os xs₄) where
-          pub bad_4 : (w : Wrong) → end xs₄ ≡ bad w → sheet bs ≡ bad (record { section = 0; wrong = w })
-          bad_4 w e = chain _ (ap (within 0) e₀) (chain _ (ap (within 1) e₁) (chain _ (ap (within 2) e₂) (chain _ (ap (within 3) e₃) (broken _ (ap (within 0) e)))))
-
-          pub good : (z : ℕ) (xs₅ : List ℕ) → end xs₄ ≡ got z xs₅ → sheet bs ≡ got (record { inputs = i; gates = gs; outputs = os }) xs₅
-          good z xs₅ e = chain _ (ap (within 0) e₀) (chain _ (ap (within 1) e₁) (chain _ (ap (within 2) e₂) (chain _ (ap (within 3) e₃) (chain _ (ap (within 0) e) refl))))
+  ended : (z : ℕ) (xs₅ : List ℕ) → end xs₄ ≡ got z xs₅ → sheet bs ≡ got (record { inputs = i; gates = gs; outputs = os }) xs₅
+  ended z xs₅ e = chain _ (ap (within 0) e₀) (chain _ (ap (within 1) e₁) (chain _ (ap (within 2) e₂) (chain _ (ap (within 3) e₃) (chain _ (ap (within 0) e) refl))))
 
 -- a section that was read, of which the pass kept the answer
 pub at_ok : {X Y : Type 0} (view : Y → X) (field : List ℕ → Read Wrong X) (before after : Reader) (r : Result Y FieldFault) (y : Y) → StepBy view field before r after
@@ -90,8 +72,8 @@ read_all r₀ r₁ r₂ r₃ r₄ v i n m start s₀ s₁ s₂ s₃ =
       many_gates = g.long;
       many_outputs = o.long;
       same = s₃.sheet ∙ s₂.sheet ∙ s₁.sheet ∙ s₀.sheet;
-      at_end = λ z e. good bs v (left r₁) e₀ i (left r₂) (sym s₁.reads) g.list (left r₃) g.is o.list (left r₄) e₃ z [] e;
-      not_at_end = λ w e. bad_4 bs v (left r₁) e₀ i (left r₂) (sym s₁.reads) g.list (left r₃) g.is o.list (left r₄) e₃ w e;
+      at_end = λ z e. ended bs v (left r₁) e₀ i (left r₂) (sym s₁.reads) g.list (left r₃) g.is o.list (left r₄) e₃ z [] e;
+      not_at_end = λ w e. not_ended bs v (left r₁) e₀ i (left r₂) (sym s₁.reads) g.list (left r₃) g.is o.list (left r₄) e₃ w e;
     }
 
 bytes_from : (bs : List ℕ) → ((i : ℕ) → get_or bs i 0 < 256) → Bytes bs

@@ -13,7 +13,7 @@ use Rattle.sheet.specs.declared.output_records.OutputRecords.{OutputRecords}
 use Rattle.sheet.specs.declared.reader.Reader.{Reader}
 use Rattle.sheet.specs.View.{left}
 use Rattle.sheet.proofs.Loops.{SoFar}
-use Rattle.sheet.proofs.Fields.{parts, judged_got, byte_got, passed, never, got_same}
+use Rattle.sheet.proofs.Fields.{parts, judged_got, byte_got, passed, got_same}
 
 pub record Raw (xs name ys : List ℕ) : Type 0 where
   pub long : 3 ≤ length xs
@@ -28,8 +28,8 @@ raw_at xs xs₁ xs₂ h l n name ys e e₁ f t d =
     subst P (sym (e ∙ ap (λ z. h ∷ l ∷ z) e₁)) here
 
 number_cells : (xs : List ℕ) (n : ℕ) (ys : List ℕ) → number xs ≡ got n ys → (h : ℕ) × (l : ℕ) × (xs ≡ h ∷ l ∷ ys)
-number_cells [] n ys e = absurd (never e)
-number_cells (h ∷ []) n ys e = absurd (never e)
+number_cells [] n ys e = absurd (cc)
+number_cells (h ∷ []) n ys e = absurd (cc)
 number_cells (h ∷ l ∷ xs) n ys e = let r : xs ≡ ys = cc in (h, l, (cc))
 
 raw_joined : (signals : ℕ) (earlier : List (List ℕ)) (s n : ℕ) (name xs xs₁ xs₂ ys : List ℕ)

@@ -1,36 +1,25 @@
 -- What a writer's calls keep: the place holds the sheet written so far, and is as it was behind it.
-use Rattle.std.proofs.Common.{◌≡◌, ℕ, ◌+◌, ◌-◌, ◌*◌, ◌<◌, ◌≤◌, Bool, true, false, ltb, List, [], ◌∷◌, ◌++◌, length, take, drop, None, Ok, Err, Option, Result, sym, refl, ap, ◌∙◌, subst, append_assoc, append-nil, arith}
+use Rattle.std.proofs.Common.{◌≡◌, ℕ, ◌+◌, ◌*◌, ◌<◌, ◌≤◌, Bool, true, false, ltb, List, [], ◌∷◌, ◌++◌, length, take, drop, None, Option, sym, refl, ap, ◌∙◌, subst, append_assoc, append-nil, arith}
 use Rattle.sheet.specs.declared.fault.Flaw.{Flaw}
 use Rattle.sheet.specs.declared.fault.Flaw.TheVariants.{Name, Signal}
 use Rattle.sheet.specs.declared.output_records.OutputRecords.{OutputRecords}
 use Rattle.sheet.specs.Ahead.{outputs_in, outputs_ahead}
-use Rattle.sheet.proofs.Parts.{outputs_back}
-use borrow.Rule.Slice.PartMut.{put_mid}
+use Rattle.sheet.proofs.Parts.{outputs_back, gates_long}
 use Rattle.std.specs.List.{flat_map}
 use Rattle.std.proofs.lemmas.List.{drop-drop, length-append, length_push, take_at, drop_at, flat_map_more, length-take-le}
 use Rattle.std.proofs.lemmas.Bool.Decides.{nat_tests}
 use Rattle.sheet.specs.declared.writer.Outputs.{Outputs}
 use Rattle.sheet.specs.declared.gate.Gate.{Gate}
 use Rattle.sheet.specs.declared.writer.Gates.{Gates}
-use Rattle.sheet.specs.Format.{gate_bytes, number_bytes, Output, output_bytes, Content, encode, decode, content, fault, names, name_fits}
+use Rattle.sheet.specs.Format.{gate_bytes, number_bytes, Output, output_bytes, Content, encode, decode, names, name_fits}
 use Rattle.gates.specs.Kinds.{between}
 use Rattle.sheet.proofs.Back.{decode_encode}
 use Rattle.sheet.specs.Laws.{GateFits, NextGateFits, EachFits, OutputFits, NextOutputFits}
 use Rattle.sheet.specs.Written.{put, gates_end, outputs_start, front, HoldsGates, HoldsOutputs, named, more_outputs}
 use Rattle.sheet.specs.declared.writer.Closed.{Closed}
-use Rattle.sheet.specs.Closing.{HoldsSheet, ReadsBack}
-use Rattle.sheet.specs.Numbers.{number_of, section_number}
-use Rattle.sheet.specs.Sections.{Says, Reads}
-use Rattle.sheet.specs.declared.fault.SheetFault.{SheetFault}
-use Rattle.sheet.specs.declared.sheet.Sheet.{Sheet}
-use Rattle.sheet.specs.Trips.{ReadAsGiven, SameAsWritten}
+use Rattle.sheet.specs.Closing.{HoldsSheet}
+use Rattle.sheet.specs.Trips.{ReadAsGiven}
 use Rattle.sheet.specs.Flaws.{unless, first_some, output_flaw}
-
-pub put_is : (xs ys bs : List ℕ) (at : ℕ) → ys ≡ bs → put_mid at (at + length bs - at) xs ys ≡ put xs at bs
-put_is xs ys bs at e =
-    let k : at + length bs - at ≡ length bs = omega arith in
-    let d : drop (at + length bs - at) (drop at xs) ≡ drop (at + length bs) xs = ap (λ n. drop n (drop at xs)) k ∙ drop-drop (length bs) at xs in
-    λ i. take at xs ++ (e i ++ d i)
 
 -- bytes put after a front that is kept
 pub put_after : (p t bs xs : List ℕ) (at : ℕ) → xs ≡ p ++ t → length p ≡ at → put xs at bs ≡ p ++ (bs ++ drop (length bs) t)
@@ -42,19 +31,6 @@ put_after p t bs xs at e l =
 pub each_push : {X : Type 0} (Fits : List X → X → Type 0) (done xs : List X) (x : X) → EachFits Fits done xs → Fits (done ++ xs) x → EachFits Fits done (xs ++ x ∷ [])
 each_push Fits done [] x f h = (subst (λ l. Fits l x) (append-nil done) h, tt)
 each_push Fits done (y ∷ xs) x f h = (f.0, each_push Fits (done ++ y ∷ []) xs x f.1 (subst (λ l. Fits l x) (sym (append_assoc done (y ∷ []) xs)) h))
-
-gates_long : (gs : List Gate) → length (flat_map gate_bytes gs) ≡ 7 * length gs
-gates_long [] = refl
-gates_long (g ∷ gs) = let r = gates_long gs in omega arith
-
--- the number of inputs, written over five bytes
-pub opened : (i : ℕ) (place : List ℕ) → 5 ≤ length place → put (put (put place 0 (1 ∷ [])) 1 (number_bytes i)) 3 (number_bytes 0) ≡ front i [] ++ drop 5 place
-opened i [] h = absurd (omega arith)
-opened i (x1 ∷ []) h = absurd (omega arith)
-opened i (x1 ∷ x2 ∷ []) h = absurd (omega arith)
-opened i (x1 ∷ x2 ∷ x3 ∷ []) h = absurd (omega arith)
-opened i (x1 ∷ x2 ∷ x3 ∷ x4 ∷ []) h = absurd (omega arith)
-opened i (x1 ∷ x2 ∷ x3 ∷ x4 ∷ x5 ∷ xs) h = refl
 
 -- what lies behind a record that is written
 behind : (n m k : ℕ) (before : List ℕ) → n + m ≡ k → drop m (drop n before) ≡ drop k before
@@ -144,9 +120,9 @@ start_outputs place after w v o si sg so se fits e before gs h =
 
 flaw_parts : (a b d : Bool) → first_some (unless a Signal) (first_some (unless b Name) (unless d Name)) ≡ None → (a ≡ true) × (b ≡ true) × (d ≡ true)
 flaw_parts true true true e = (refl, refl, refl)
-flaw_parts true true false e = absurd (let z : ◌≡◌ {A = ℕ} 0 1 = cc in omega arith)
-flaw_parts true false d e = absurd (let z : ◌≡◌ {A = ℕ} 0 1 = cc in omega arith)
-flaw_parts false b d e = absurd (let z : ◌≡◌ {A = ℕ} 0 1 = cc in omega arith)
+flaw_parts true true false e = absurd (cc)
+flaw_parts true false d e = absurd (cc)
+flaw_parts false b d e = absurd (cc)
 
 pub no_flaw : (signals : ℕ) (earlier : List (List ℕ)) (o : Output) → output_flaw signals earlier o ≡ None → OutputFits signals earlier o
 no_flaw signals earlier o e = let p = flaw_parts (ltb o.signal signals) (between 1 16 (length o.name)) (name_fits earlier o.name) e in record { signal = p.0; long = p.1; name = p.2 }
@@ -223,18 +199,5 @@ closed before place w v c b h =
       behind = h.is ∙ ap (λ n. encode c ++ drop n before) (sym b);
     }
 
-pub reads_back : (place bs : List ℕ) (v : Closed) (r : Result Sheet SheetFault) → bs ≡ take v.size place → Reads bs r → ReadsBack place v r
-reads_back place bs v (Ok s) b q = λ before c h.
-    let e : content q.1.0 ≡ content c = sym q.1.1.decodes ∙ ap decode (q.0 ∙ b) ∙ h.reads in
-    let same : q.1.0 ≡ c = cc in
-    subst (Says s) same q.1.1
-reads_back place bs v (Err f) b q = λ before c h.
-    let e : fault (number_of f.flaw) (section_number f.section) f.place ≡ content c = sym q ∙ ap decode b ∙ h.reads in
-    let z : ◌≡◌ {A = ℕ} 0 1 = cc in
-    omega arith
-
 pub read_as_given : ReadAsGiven
 read_as_given before place w c h = ap decode (held before place w c h).whole ∙ decode_encode c h.lawful
-
-pub same_as_written : SameAsWritten
-same_as_written s c says before place w h = (held before place w c h).whole ∙ says.again

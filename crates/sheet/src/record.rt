@@ -60,7 +60,7 @@ pub fn check_gate(gate: Gate, own: u16, start: usize) -> Result<(), FieldFault>
     ensures fault { GateChecked own gate start result }
     ensures flaw { flaw_in result ≡ gate_flaw own gate }
 {
-    if gate.kind < 1 || gate.kind > 9 {
+    if !(1..=9).contains(&gate.kind) {
         return Err(FieldFault {
             flaw: Flaw::Kind,
             place: start,

@@ -1,5 +1,5 @@
 //! Why a writer's call is refused, and the writer that a refused call hands back.
-ghost use Rattle.std.specs.Prelude.{◌≡◌};
+ghost use Rattle.std.specs.Prelude.{◌≡◌, Err};
 ghost use Rattle.sheet.specs.Numbers.{refusal_number};
 ghost use Rattle.sheet.specs.declared.refusal.Refusal.TheVariants.{Wrong};
 
@@ -59,6 +59,13 @@ impl Error for Refusal {}
 pub struct Refused<W> {
     pub writer: W,
     pub refusal: Refusal,
+}
+
+/// Refuses a call of a writer, and hands the writer back.
+pub fn refuse<T, W>(writer: W, refusal: Refusal) -> Result<T, Refused<W>>
+    ensures { result ≡ Err (record { writer = writer; refusal = refusal }) }
+{
+    Err(Refused { writer, refusal })
 }
 
 impl<W: Drop> From<Refused<W>> for Refusal {

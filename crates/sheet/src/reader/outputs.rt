@@ -31,6 +31,7 @@ impl<'a> Reader<'a> {
     fn name(&mut self, size: u8, earlier: OutputRecords<'a>) -> Result<&'a [u8], FieldFault>
         ensures { PartStep (judged (some_bytes size) (name_fits (names (outputs_ahead earlier.entry))) name_flaw) self.old result self.new }
     {
+        // Not by `judged`: its closure would give a part of the sheet, and such a closure got no proof.
         let place = self.place;
         let name = self.part(size as usize)?;
         if visible(name) && !has_name(earlier, name) {

@@ -7,7 +7,7 @@ ghost use Rattle.sheet.specs.Refusals.{refused, input_refusal, gate_refusal};
 use crate::fault::Flaw;
 use crate::gate::Gate;
 use crate::record::check_gate;
-use crate::refusal::{Refusal, Refused};
+use crate::refusal::{Refusal, Refused, refuse};
 use crate::writer::bytes::gate_bytes;
 use crate::writer::{Gates, Opened, put};
 
@@ -17,17 +17,11 @@ impl Opened {
         ensures state { Opening place.old inputs result place.new }
         ensures refusal { refused result ≡ input_refusal (length place.old) inputs }
     {
-        if inputs < 1 || inputs > 64 {
-            return Err(Refused {
-                writer: self,
-                refusal: Refusal::Wrong(Flaw::Count),
-            });
+        if !(1..=64).contains(&inputs) {
+            return refuse(self, Refusal::Wrong(Flaw::Count));
         }
         if place.len() < 5 {
-            return Err(Refused {
-                writer: self,
-                refusal: Refusal::Full,
-            });
+            return refuse(self, Refusal::Full);
         }
         let Opened = self;
         put(place, 0, &[1]);
@@ -61,12 +55,7 @@ impl Gates {
     {
         let at = match self.place_of_gate(gate, place.len()) {
             Ok(at) => at,
-            Err(refusal) => {
-                return Err(Refused {
-                    writer: self,
-                    refusal,
-                });
-            }
+            Err(refusal) => return refuse(self, refusal),
         };
         let Gates { inputs, gates } = self;
         put(place, at, &gate_bytes(gate));

@@ -8,7 +8,7 @@ ghost use Rattle.sheet.specs.Refusals.{refused, first_output_refusal, output_ref
 use crate::fault::Flaw;
 use crate::output::bytes_from;
 use crate::output_records::OutputRecords;
-use crate::refusal::{Refusal, Refused};
+use crate::refusal::{Refusal, Refused, refuse};
 use crate::writer::names::check_output;
 use crate::writer::{Gates, Outputs, put};
 
@@ -39,12 +39,7 @@ impl Gates {
     {
         let end = match self.end_of_first(signal, name, place.len()) {
             Ok(end) => end,
-            Err(refusal) => {
-                return Err(Refused {
-                    writer: self,
-                    refusal,
-                });
-            }
+            Err(refusal) => return refuse(self, refusal),
         };
         let Gates { inputs, gates } = self;
         let at = 5 + 7 * gates as usize;
@@ -92,12 +87,7 @@ impl Outputs {
     {
         let end = match self.end_of_output(place, signal, name) {
             Ok(end) => end,
-            Err(refusal) => {
-                return Err(Refused {
-                    writer: self,
-                    refusal,
-                });
-            }
+            Err(refusal) => return refuse(self, refusal),
         };
         let Outputs {
             inputs,

@@ -4,7 +4,7 @@ ghost use Rattle.sheet.specs.Closing.{Closing, ReadsBack};
 ghost use Rattle.sheet.specs.Refusals.{refused, close_refusal, without_outputs};
 
 use crate::fault::{Flaw, SheetFault};
-use crate::refusal::{Refusal, Refused};
+use crate::refusal::{Refusal, Refused, refuse};
 use crate::sheet::Sheet;
 use crate::writer::{Closed, Gates, Opened, Outputs};
 
@@ -13,10 +13,7 @@ impl Opened {
     pub fn close(self, _place: &[u8]) -> Result<Closed, Refused<Opened>>
         ensures { result ≡ Err (record { writer = self; refusal = without_outputs }) }
     {
-        Err(Refused {
-            writer: self,
-            refusal: Refusal::Wrong(Flaw::Count),
-        })
+        refuse(self, Refusal::Wrong(Flaw::Count))
     }
 }
 
@@ -25,10 +22,7 @@ impl Gates {
     pub fn close(self, _place: &[u8]) -> Result<Closed, Refused<Gates>>
         ensures { result ≡ Err (record { writer = self; refusal = without_outputs }) }
     {
-        Err(Refused {
-            writer: self,
-            refusal: Refusal::Wrong(Flaw::Count),
-        })
+        refuse(self, Refusal::Wrong(Flaw::Count))
     }
 }
 
@@ -39,10 +33,7 @@ impl Outputs {
         ensures refusal { refused result ≡ close_refusal (length place.now) self }
     {
         if place.len() < self.end {
-            return Err(Refused {
-                writer: self,
-                refusal: Refusal::Full,
-            });
+            return refuse(self, Refusal::Full);
         }
         let Outputs {
             inputs: _,
@@ -66,12 +57,7 @@ impl Closed {
     pub fn bytes(self, place: &[u8]) -> &[u8]
         ensures { result.now ≡ take self.size place.now }
     {
-        let size = self.size;
-        if size < place.len() {
-            &place[0..size]
-        } else {
-            place
-        }
+        place.get(..self.size).unwrap_or(place)
     }
 
     /// Reads the sheet back: it says what the writer was given.

@@ -23,7 +23,7 @@ pub fn check_output(
     if signal >= signals {
         return Err(Flaw::Signal);
     }
-    if name.len() < 1 || name.len() > 16 {
+    if !(1..=16).contains(&name.len()) {
         return Err(Flaw::Name);
     }
     if visible(name) && !has_name(earlier, name) {

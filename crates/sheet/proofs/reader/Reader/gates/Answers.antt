@@ -4,11 +4,8 @@ use Rattle.gates.specs.Kinds.{between}
 use Rattle.std.proofs.lemmas.Result.{err_from_is_err_and}
 use Rattle.sheet.specs.Format.{next_gate, gate}
 use Rattle.sheet.specs.View.{Step}
-use Rattle.sheet.proofs.Loops.{SoFar, none, more, all, stopped}
+use Rattle.sheet.proofs.Loops.{SoFar, more, all, stopped}
 use Rattle.sheet.proofs.reader.Reader.gates.Goals as goal
-
-pub loop-k-init : goal.loop-k-init
-loop-k-init c = none (next_gate c.args.inputs) _
 
 pub loop-k-preserved : goal.loop-k-preserved
 loop-k-preserved c =

@@ -5,12 +5,9 @@ use Rattle.std.proofs.lemmas.Result.{err_from_is_err_and}
 use Rattle.sheet.specs.Format.{next_output, output}
 use Rattle.sheet.specs.Names.{output_of}
 use Rattle.sheet.specs.View.{StepBy}
-use Rattle.sheet.proofs.Loops.{SoFar, none, more, all, stopped}
+use Rattle.sheet.proofs.Loops.{SoFar, more, all, stopped}
 use Rattle.sheet.proofs.Skims.{earlier_names}
 use Rattle.sheet.proofs.reader.Reader.outputs.Goals as goal
-
-pub loop-k-init : goal.loop-k-init
-loop-k-init c = none (next_output c.args.signals) _
 
 pub loop-k-preserved : goal.loop-k-preserved
 loop-k-preserved c =

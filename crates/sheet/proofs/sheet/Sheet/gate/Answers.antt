@@ -2,11 +2,8 @@
 use Rattle.std.proofs.Common.{length, ap, subst, arith}
 use Rattle.sheet.specs.Record.{Seven}
 use Rattle.sheet.specs.Sections.{said}
-use Rattle.sheet.proofs.Parts.{says_said, no_gate, gate_item, gate_there}
+use Rattle.sheet.proofs.Parts.{says_said, gate_item, gate_there}
 use Rattle.sheet.proofs.sheet.Sheet.gate.Goals as goal
-
-pub returns-then-k-self : goal.returns-then-k-self
-returns-then-k-self c = no_gate c.args.self.now.bytes.now c.args.self.now.shape (said c.args.self.now) c.args.k c.if-k-self.true (says_said c.args.self.now)
 
 pub returns : goal.returns
 returns c = gate_item c.args.self.now.bytes.now c.args.self.now.shape (said c.args.self.now) c.args.k _ c.if-k-self.false (subst (λ l. Seven l c.in_ok-gate.gate) c.bytes_from.ensures c.in_ok-gate.ensures.0) (says_said c.args.self.now)

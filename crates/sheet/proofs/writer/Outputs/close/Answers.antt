@@ -1,17 +1,11 @@
 -- What is left to show of `writer::Outputs::close`, beyond what the search finds.
 use Rattle.std.proofs.Common.{length, refl, arith}
-use Rattle.std.proofs.lemmas.Bool.{le-leb, lt-leb}
-use Rattle.sheet.proofs.Writing.{held, closed}
+use Rattle.std.proofs.lemmas.Bool.{le-leb}
+use Rattle.sheet.proofs.Writing.{closed}
 use Rattle.sheet.proofs.writer.Outputs.close.Goals as goal
 
 pub returns : goal.returns
 returns c = record {
   state = (refl, λ b d h. closed b c.args.place.now c.args.self _ d refl h);
   refusal = simp (le-leb c.args.self.end (length c.args.place.now) (omega (arith, c.if-place-self.false)));
-}
-
-pub returns-then-place-self : goal.returns-then-place-self
-returns-then-place-self c = record {
-  state = (refl, λ b d h. omega (arith, (held b c.args.place.now c.args.self d h).ends, c.if-place-self.true));
-  refusal = simp (lt-leb c.args.self.end (length c.args.place.now) (omega (arith, c.if-place-self.true)));
 }
