@@ -6,7 +6,7 @@ use Rattle.bdd.specs.declared.store.nodes.Node.{Node}
 use Rattle.bdd.specs.declared.store.cache.Entry.{Entry}
 use Rattle.bdd.specs.Diagram.{node, node_at, Fits, Good, Grown}
 use Rattle.bdd.specs.Steps.{Both}
-use Rattle.bdd.specs.Sound.{Right, entry}
+use Rattle.bdd.specs.Caching.{KnownAfter, AllRight, Right}
 use Rattle.bdd.specs.Index.{LinkedBy, bucket_of}
 use Rattle.bdd.proofs.Values.{eval_kept, var_kept, grown_push}
 
@@ -36,17 +36,28 @@ both_up ns ms f g r good grown inf ing b =
       value_is = λ ρ. b.value_is ρ ∙ sym (ap₂ ◌&&◌ (eval_kept ns ms ρ f good grown inf) (eval_kept ns ms ρ g good grown ing));
     }
 
-pub right_up : (ns ms : List Node) (f g r s : ℕ) → Good ns → Grown ns ms → f / 2 ≤ length ns → g / 2 ≤ length ns → Both ns ms f g r → Right ms (entry f g r s)
-right_up ns ms f g r s good grown inf ing b =
+pub right_up : (ns ms : List Node) (f g r : ℕ) → Good ns → Grown ns ms → f / 2 ≤ length ns → g / 2 ≤ length ns → Both ns ms f g r → Right ms f g r
+right_up ns ms f g r good grown inf ing b =
     let longer = grown.longer in
     record { f_inside = omega arith; g_inside = omega arith; both = both_up ns ms f g r good grown inf ing b }
 
-pub right_kept : (ns ms : List Node) (e : Entry) → Good ns → Grown ns ms → Right ns e → Right ms e
-right_kept ns ms e good grown r =
+pub right_kept : (ns ms : List Node) (f g r : ℕ) → Good ns → Grown ns ms → Right ns f g r → Right ms f g r
+right_kept ns ms f g r good grown right =
     let longer = grown.longer in
-    let a = r.f_inside in
-    let b = r.g_inside in
-    record { f_inside = omega arith; g_inside = omega arith; both = both_kept ns ms e.f e.g e.result good grown r.f_inside r.g_inside r.both }
+    let a = right.f_inside in
+    let b = right.g_inside in
+    record { f_inside = omega arith; g_inside = omega arith; both = both_kept ns ms f g r good grown right.f_inside right.g_inside right.both }
+
+-- what is right stays so when nodes are added
+pub all_right_kept : (ns ms : List Node) (es : List Entry) (stamp : ℕ) → Good ns → Grown ns ms → AllRight ns es stamp → AllRight ms es stamp
+all_right_kept ns ms es stamp good grown all f g r known = right_kept ns ms f g r good grown (all f g r known)
+
+-- and when a conjunction is remembered that is right
+pub all_right_after : (ns : List Node) (old new : List Entry) (stamp f g r : ℕ) → KnownAfter old new stamp f g r → Right ns f g r → AllRight ns old stamp → AllRight ns new stamp
+all_right_after ns old new stamp f g r after right all f' g' r' known = ⊎_elim
+    (λ before. all f' g' r' before)
+    (λ is. subst (λ x. Right ns x g' r') (sym is.0) (subst (λ x. Right ns f x r') (sym is.1) (subst (λ x. Right ns f g x) (sym is.2) right)))
+    (after f' g' r' known)
 
 module _ (m : ℕ) (ns : List Node) (next heads : List ℕ) (n : Node) (l : LinkedBy m ns next heads) where
   pub linked_push : bucket_of m n < m → LinkedBy m (ns ++ n ∷ []) (next ++ get_or heads (bucket_of m n) 0 ∷ []) (set heads (bucket_of m n) (length ns + 1))

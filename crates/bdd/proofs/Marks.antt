@@ -3,11 +3,11 @@ use Rattle.std.proofs.Common.{◌≡◌, ℕ, zero, suc, ◌+◌, ◌-◌, ◌*�
 use mathlib.Core.Path.{fun_ext}
 use Rattle.std.proofs.lemmas.Bool.{cases_Bool, cases_lt, cases_eq, lt-ltb, le-ltb, eq-eqb, ne_eqb, both_ways, or_left, or_right}
 use Rattle.bdd.specs.declared.store.nodes.Node.{Node}
-use Rattle.bdd.specs.Diagram.{node_at, turned, inverted, eval, var_at, top, Good}
+use Rattle.bdd.specs.Diagram.{node_at, turned, inverted, eval, var_at, top, Good, turn}
 use Rattle.bdd.specs.Size.{Fn, one, fork, same, opposite, known, parts, distinct, table, size_of, In, Above, Ascending, Only}
 use Rattle.bdd.specs.Laws.{Inputs}
 use Rattle.bdd.specs.Marking.{bit, tally, Marked, Marks}
-use Rattle.bdd.proofs.Values.{turn, turn_half, cofactor_here, inner}
+use Rattle.bdd.proofs.Values.{turn_half, cofactor_here, inner}
 use Rattle.bdd.proofs.Growth.{straight_of, turned_twice}
 use Rattle.bdd.proofs.Canon.{upd, upd_at, upd_other}
 use Rattle.bdd.proofs.Pigeons.{same_of, Near, Known, known_is, known_near, near_on, near_sym, near_or_not}

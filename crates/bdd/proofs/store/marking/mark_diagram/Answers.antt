@@ -1,5 +1,5 @@
 -- The marks stay closed, whether node i is marked or not.
-use Rattle.std.proofs.Common.{◌≡◌, ◌/◌, ◌≤◌, length, subst, arith, rules}
+use Rattle.std.proofs.Common.{◌≡◌, ◌/◌, ◌≤◌, length, sym, subst, arith, rules}
 use Rattle.bdd.specs.Marking.{at, Marks}
 use Rattle.bdd.proofs.Marked.{turn_start, turn_marked, turn_skipped}
 use Rattle.bdd.proofs.store.marking.mark_diagram.Goals as goal
@@ -7,7 +7,8 @@ use Rattle.bdd.proofs.store.marking.mark_diagram.Goals as goal
 pub loop-i-init : goal.loop-i-init
 loop-i-init c =
     let room : c.args.e / 2 ≤ length c.clear.new.marks = search rules in
-    (omega arith, turn_start c.args.nodes.now c.args.e c.clear.new.marks c.mark.new.marks c.requires.good c.requires.within room c.clear.ensures c.mark.ensures)
+    let start = turn_start c.args.nodes.now c.args.e c.clear.new.marks c.mark.new.marks c.requires.good c.requires.within room (λ k h. c.clear.ensures k (omega (arith, c.place_of-n.ensures))) c.mark.ensures in
+    (omega (arith, c.place_of-n.ensures), subst (λ n. Marks c.args.nodes.now c.args.e (c.args.e / 2) n (at c.mark.new.marks)) (sym c.place_of-n.ensures) start)
 
 pub loop-i-preserved-then-marks-i : goal.loop-i-preserved-then-marks-i
 loop-i-preserved-then-marks-i c =

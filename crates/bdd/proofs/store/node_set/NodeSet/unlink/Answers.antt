@@ -1,24 +1,24 @@
--- The table with one node less is sound, since no entry of the cache counts.
-use Rattle.std.proofs.Common.{◌≡◌, ℕ, ◌+◌, ◌<◌, List, [], ◌∷◌, ◌++◌, length, set, vec_items, sym, refl, ap, ◌∙◌, subst, arith, length-append, length-set, rules}
+-- With one node less the nodes are good, and the index has each.
+use Rattle.std.proofs.Common.{◌≡◌, ℕ, ◌+◌, ◌<◌, List, [], ◌∷◌, ◌++◌, length, set, vec_items, sym, ap, refl, ◌∙◌, subst, arith, length-append, length-set, rules}
 use Rattle.bdd.specs.declared.store.nodes.Node.{Node}
 use Rattle.bdd.specs.Diagram.{Good, Grown}
 use Rattle.bdd.specs.Index.{bucket_of, LinkedBy}
 use Rattle.bdd.proofs.Values.{grown_push}
 use Rattle.bdd.proofs.Chains.{linked_pop, good_pop}
-use Rattle.bdd.proofs.store.Table.unlink.Goals as goal
+use Rattle.bdd.proofs.store.node_set.NodeSet.unlink.Goals as goal
 
-pub returns : goal.returns
-returns c =
-    let ms : List Node = vec_items c.args.self.now.nodes in
+pub invariant_of-self : goal.invariant_of-self
+invariant_of-self c =
+    let s = c.args.self.now in
+    let ms : List Node = vec_items s.nodes in
     let ns : List Node = vec_items c.take_last-n.new.self in
     let nx : List ℕ = vec_items c.take_last-before.new.self in
-    let hs : List ℕ = vec_items c.args.self.now.heads in
+    let hs : List ℕ = vec_items s.heads in
     let n : Node = c.take_last-n.result in
     let x : ℕ = c.take_last-before.result in
-    let s = c.requires.sound in
     let m : ℕ = length hs in
     let items : ms ≡ ns ++ n ∷ [] = c.take_last-n.ensures.items in
-    let next_items : vec_items c.args.self.now.next ≡ nx ++ x ∷ [] = c.take_last-before.ensures.items in
+    let next_items : vec_items s.next ≡ nx ++ x ∷ [] = c.take_last-before.ensures.items in
     let wide : c.len.result ≡ m = search rules in
     let b : ℕ = c.bucket-b.result in
     let bis : b ≡ bucket_of m n = c.bucket-b.ensures.0 ∙ ap (λ k. bucket_of k n) wide in
@@ -32,21 +32,15 @@ returns c =
     let new_wide : m ≡ length (set hs b x) = sym (length-set hs b x) in
     let len = c.take_last-n.ensures.len in
     record {
-      sound = record {
-        good = good_pop ns n (subst Good items s.good);
-        linked = subst (λ k. LinkedBy k ns nx (set hs b x)) new_wide linked;
-        cache_some = s.cache_some;
-        stamped = s.stamped;
-        cached = λ k h now-is. absurd (omega (arith, c.requires.forgotten k h));
-        within = omega (arith, s.within);
-        room = omega (arith, c.take_last-n.ensures.capacity, s.room);
-        next_room = omega (arith, c.take_last-before.ensures.capacity, s.next_room);
-        marks_room = s.marks_room;
-        images_room = s.images_room;
-        small = s.small;
-      };
-      forgotten = c.requires.forgotten;
-      limit = refl;
-      len = search rules;
-      nodes = subst (Grown ns) (sym items) (grown_push ns n);
+      good = good_pop ns n (subst Good items s.good);
+      linked = subst (λ k. LinkedBy k ns nx (set hs b x)) new_wide linked;
+      within = omega (arith, s.within);
+      room = omega (arith, c.take_last-n.ensures.capacity, s.room);
+      next_room = omega (arith, c.take_last-before.ensures.capacity, s.next_room);
+      small = s.small;
     }
+
+pub returns : goal.returns
+returns c =
+    let ns : List Node = vec_items c.take_last-n.new.self in
+    record { limit = refl; len = search rules; nodes = subst (Grown ns) (sym c.take_last-n.ensures.items) (grown_push ns c.take_last-n.result) }
