@@ -1,7 +1,7 @@
 //! Marking the nodes of a diagram, from its own node down, in scratch of the table.
-ghost use Rattle.std.specs.Prelude.{◌≡◌, ℕ, ◌/◌, ◌<◌, ◌≤◌, false, length};
+ghost use Rattle.std.specs.Prelude.{◌≡◌, ℕ, ◌/◌, ◌<◌, ◌≤◌, false, length, take, count_by};
 ghost use Rattle.bdd.specs.Diagram.{node_at, Within, Good};
-ghost use Rattle.bdd.specs.Marking.{at, with_mark, tally, Marks};
+ghost use Rattle.bdd.specs.Marking.{at, with_mark, Marks};
 
 use super::nodes::Node;
 use crate::edges::{Edge, place_of};
@@ -11,9 +11,7 @@ fn clear(marks: &mut [bool], n: usize)
     requires { n ≤ length marks.old }
     ensures { (k : ℕ) → k < n → at marks.new k ≡ false }
 {
-    for k in 0..n {
-        marks[k] = false;
-    }
+    marks[..n].fill(false);
 }
 
 // Marks the node of an edge.
@@ -49,9 +47,7 @@ pub(super) fn mark_diagram(nodes: &[Node], marks: &mut [bool], e: Edge)
     let n = place_of(e);
     clear(marks, n);
     mark(marks, e);
-    let mut i = n;
-    while i > 0 {
-        i -= 1;
+    for i in (0..n).rev() {
         if marks[i] {
             mark_children(nodes, marks, i);
         }
@@ -61,15 +57,7 @@ pub(super) fn mark_diagram(nodes: &[Node], marks: &mut [bool], e: Edge)
 // How many of the first n marks are set.
 pub(super) fn count_marks(marks: &[bool], n: usize) -> usize
     requires { n ≤ length marks.now }
-    ensures { result ≡ tally (at marks.now) 0 n }
+    ensures { result ≡ count_by (λ marked. marked) (take n marks.now) }
 {
-    let mut count = 0;
-    let mut i = n;
-    while i > 0 {
-        i -= 1;
-        if marks[i] {
-            count += 1;
-        }
-    }
-    count
+    marks[..n].iter().filter(|&&marked| marked).count()
 }
