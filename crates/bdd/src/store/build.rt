@@ -12,10 +12,10 @@ use crate::edges::{Edge, FALSE, TRUE, edge_to, inverse, is_inverted};
 
 impl Table {
     // The edge straight to a node, which is added if the table lacks it; none where the table is full.
-    fn place(&mut self, n: Node) -> Option<Edge>
-        requires fits { Fits (nodes_of self.old) (length (nodes_of self.old)) n }
+    fn place(&mut self, n: &Node) -> Option<Edge>
+        requires fits { Fits (nodes_of self.old) (length (nodes_of self.old)) n.now }
         ensures kept { Kept self.old self.new }
-        ensures cases { MatchOption result (Full self.old self.new × Lacks (nodes_of self.old) n) (λ e. Placed (nodes_of self.old) (nodes_of self.new) n e) }
+        ensures cases { MatchOption result (Full self.old self.new × Lacks (nodes_of self.old) n.now) (λ e. Placed (nodes_of self.old) (nodes_of self.new) n.now e) }
     {
         if let Some(i) = self.set.find(n) {
             return Some(edge_to(i));
@@ -24,19 +24,19 @@ impl Table {
             return None;
         }
         let i = self.set.len();
-        self.set.link(n);
+        self.set.link(*n);
         Some(edge_to(i))
     }
 
     // The edge of the node's function; none where the table is full.
-    pub(super) fn mk(&mut self, n: Node) -> Option<Edge>
-        requires bounded { n.var < 4096 }
-        requires high_within { Within (nodes_of self.old) n.high }
-        requires low_within { Within (nodes_of self.old) n.low }
-        requires high_later { n.var < first_var (nodes_of self.old) n.high }
-        requires low_later { n.var < first_var (nodes_of self.old) n.low }
+    pub(super) fn mk(&mut self, n: &Node) -> Option<Edge>
+        requires bounded { n.now.var < 4096 }
+        requires high_within { Within (nodes_of self.old) n.now.high }
+        requires low_within { Within (nodes_of self.old) n.now.low }
+        requires high_later { n.now.var < first_var (nodes_of self.old) n.now.high }
+        requires low_later { n.now.var < first_var (nodes_of self.old) n.now.low }
         ensures kept { Kept self.old self.new }
-        ensures cases { MatchOption result (Full self.old self.new × Short (nodes_of self.old) n.var n.high n.low) (λ e. Made (nodes_of self.old) (nodes_of self.new) n.var n.high n.low e) }
+        ensures cases { MatchOption result (Full self.old self.new × Short (nodes_of self.old) n.now.var n.now.high n.now.low) (λ e. Made (nodes_of self.old) (nodes_of self.new) n.now.var n.now.high n.now.low e) }
     {
         if n.high == n.low {
             return Some(n.high);
@@ -49,7 +49,7 @@ impl Table {
             high: inverse(n.high),
             low: inverse(n.low),
         };
-        let e = self.place(opposite)?;
+        let e = self.place(&opposite)?;
         Some(inverse(e))
     }
 
@@ -59,7 +59,7 @@ impl Table {
         requires bounded { v < 4096 }
         ensures { MatchOption result (Refused self.old self.new (λ ρ. ρ v)) (λ e. Built self.old self.new (λ ρ. ρ v) e) }
     {
-        self.mk(Node {
+        self.mk(&Node {
             var: v,
             high: TRUE,
             low: FALSE,

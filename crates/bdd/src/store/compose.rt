@@ -36,7 +36,7 @@ impl Table {
         if w == v {
             return Some(g);
         }
-        self.mk(Node {
+        self.mk(&Node {
             var: w,
             high: TRUE,
             low: FALSE,

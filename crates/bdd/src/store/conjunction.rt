@@ -44,7 +44,7 @@ impl Table {
         let g_low = self.cofactor(g, v, false);
         let high = self.conjoin(f_high, g_high)?;
         let low = self.conjoin(f_low, g_low)?;
-        let result = self.mk(Node { var: v, high, low })?;
+        let result = self.mk(&Node { var: v, high, low })?;
         self.cache.remember(pair, result);
         Some(result)
     }

@@ -60,12 +60,12 @@ impl NodeSet {
     }
 
     // Where the node is, if it is there.
-    pub(super) fn find(&self, n: Node) -> Option<usize>
-        ensures { MatchOption result (Lacks self.now.nodes.items n) (λ k. (k < length self.now.nodes.items) × (node_at self.now.nodes.items k ≡ n)) }
+    pub(super) fn find(&self, n: &Node) -> Option<usize>
+        ensures { MatchOption result (Lacks self.now.nodes.items n.now) (λ k. (k < length self.now.nodes.items) × (node_at self.now.nodes.items k ≡ n.now)) }
     {
         let mut at = self.heads[n.bucket(self.heads.len())] as usize;
         while at > 0 {
-            if self.nodes[at - 1] == n {
+            if self.nodes[at - 1] == *n {
                 return Some(at - 1);
             }
             at = self.next[at - 1] as usize;

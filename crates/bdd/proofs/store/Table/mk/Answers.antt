@@ -14,7 +14,7 @@ returns-then-not-is_inverted-clause-cases c =
     let u = c.place.new.self in
     let ns : List Node = nodes_of t in
     let ms : List Node = nodes_of u in
-    let n : Node = c.args.n in
+    let n : Node = c.args.n.now in
     let r = c.requires in
     let fits : Fits ns (length ns) n = record { high_back = r.high_within; low_back = r.low_within; high_later = r.high_later; low_later = r.low_later; straight = c.if-not-is_inverted.ensures; differ = c.if-n.false; bounded = r.bounded } in
     cases_map c.place.result (Full t u × Lacks ns n) (Full t u × Short ns n.var n.high n.low) (Placed ns ms n) (Made ns ms n.var n.high n.low)
@@ -27,7 +27,7 @@ returns-in_err-e-clause-cases c =
     let t = c.args.self.now in
     let ns : List Node = nodes_of t in
     let u = c.place-2.new.self in
-    let n : Node = c.args.n in
+    let n : Node = c.args.n.now in
     let r = c.requires in
     let cases = c.in_err-e.ensures.cases in
     let lacks : Lacks ns (node n.var (flip n.high) (flip n.low)) =
@@ -43,7 +43,7 @@ returns-clause-cases c =
     let u = c.place-2.new.self in
     let ns : List Node = nodes_of t in
     let ms : List Node = nodes_of u in
-    let n : Node = c.args.n in
+    let n : Node = c.args.n.now in
     let r = c.requires in
     let e : ℕ = c.in_ok-e.e in
     let placed : Placed ns ms (node n.var (flip n.high) (flip n.low)) e =
