@@ -23,6 +23,7 @@ mod walk;
 /// A bounded table of nodes. What its cache knows is right.
 ///
 /// `marks` and `images` have a place for each node, and hold nothing between calls.
+// They are two, since `size` and `topmost` mark nodes and have no images.
 #[derive(Drop)]
 pub struct Table {
     set: NodeSet,

@@ -12,7 +12,9 @@ use std::alloc::{AllocError, Global};
 /// Nodes that are ordered, reduced and without twins, each of which the index has.
 ///
 /// `heads` has, for each bucket, the place of its last node, and `next` for each node the place of the one before it in
-/// its bucket; 0 ends a bucket.
+/// its bucket; 0, which is the constant and in no bucket, ends one.
+// A map of the library can want memory at an insert, and nothing allocates once the table is made: so the chains are places.
+// `next` lies beside `nodes`, and not in each, since all but a search reads a slice of nodes alone.
 #[derive(Drop)]
 pub struct NodeSet {
     pub(crate) nodes: Vec<Node>,
