@@ -106,8 +106,8 @@ returns-in_err-result t c =
       cases = none_is c.from_residual-in_err-result.result ((limit_of c.mk.new.self ≤ length (nodes_of c.mk.new.self)) × Lacking ns (nodes_of c.mk.new.self) f g) (Both ns (nodes_of c.mk.new.self) f g) c.from_residual-in_err-result.ensures (subst (λ u. limit_of u ≤ length (nodes_of u)) (sym full) cases.0.0, subst (λ u. Lacking ns (nodes_of u) f g) (sym full) lacking);
     }
 
-pub invariant_of-self : goal.invariant_of-self
-invariant_of-self t c =
+pub invariant_of-self-clause-cached : goal.invariant_of-self-clause-cached
+invariant_of-self-clause-cached t c =
     let ns : List Node = nodes_of c.args.self.now in
     let n₁ : List Node = nodes_of c.conjoin.new.self in
     let n₂ : List Node = nodes_of c.conjoin-2.new.self in
@@ -125,12 +125,8 @@ invariant_of-self t c =
     c.in_ok-high.ensures.cases c.in_ok-low.ensures.cases c.in_ok-result.ensures.cases in
     let u : Table = c.mk.new.self in
     let right = right_up ns n₃ c.args.f c.args.g c.in_ok-result.result c.args.self.now.set.good kept.grown c.requires.f_within c.requires.g_within both in
-    record {
-      cached = subst (λ k. AllRight n₃ (vec_items c.remember.new.self.entries) k) (sym c.remember.ensures.stamp)
-          (all_right_after n₃ (vec_items u.cache.entries) (vec_items c.remember.new.self.entries) u.cache.stamp c.args.f c.args.g c.in_ok-result.result c.remember.ensures.known right u.cached);
-      marks_room = u.marks_room;
-      images_room = u.images_room;
-    }
+    subst (λ k. AllRight n₃ (vec_items c.remember.new.self.entries) k) (sym c.remember.ensures.stamp)
+    (all_right_after n₃ (vec_items u.cache.entries) (vec_items c.remember.new.self.entries) u.cache.stamp c.args.f c.args.g c.in_ok-result.result c.remember.ensures.known right u.cached)
 
 pub returns : goal.returns
 returns t c =

@@ -9,10 +9,6 @@ use Rattle.bdd.proofs.Walks.{walk_start, walk_high, walk_low, walk_end, first_fe
 use Rattle.bdd.proofs.store.Table.separate.Goals as goal
 use Rattle.bdd.proofs.store.Table.separate.Goals.{then-e-gt-TRUE, else-e-gt-TRUE+then-f-gt-TRUE}
 
-pub loop-e-init : goal.loop-e-init
-loop-e-init c =
-    walk_start c.args.n (nodes_of c.args.self.now) c.args.first c.args.second c.requires.first_over c.requires.second_over c.requires.first_within c.requires.second_within c.requires.differ
-
 pub loop-e-preserved-then-e_high-f_high : goal.loop-e-preserved-then-e_high-f_high
 loop-e-preserved-then-e_high-f_high c =
     let ns : List Node = nodes_of c.args.self.now in

@@ -8,8 +8,13 @@ use Rattle.bdd.proofs.Values.{good_push}
 use Rattle.bdd.proofs.Chains.{linked_push}
 use Rattle.bdd.proofs.store.node_set.NodeSet.link.Goals as goal
 
-pub invariant_of-self : goal.invariant_of-self
-invariant_of-self c =
+pub invariant_of-self-clause-good : goal.invariant_of-self-clause-good
+invariant_of-self-clause-good c =
+    let s = c.args.self.now in
+    subst Good (sym c.push_reserved-2.ensures.items) (good_push (vec_items s.nodes) c.args.n s.good c.requires.fits c.requires.fresh)
+
+pub invariant_of-self-clause-linked : goal.invariant_of-self-clause-linked
+invariant_of-self-clause-linked c =
     let s = c.args.self.now in
     let ns : List Node = vec_items s.nodes in
     let nx : List ℕ = vec_items s.next in
@@ -32,11 +37,4 @@ invariant_of-self c =
     subst (λ x. LinkedBy m x (vec_items c.push_reserved.new.self) (set hs b c.len-2.result)) (sym items)
     (subst (λ x. LinkedBy m (ns ++ n ∷ []) x (set hs b c.len-2.result)) (sym next_items)
     (subst (λ x. LinkedBy m (ns ++ n ∷ []) (nx ++ get_or hs (bucket_of m n) 0 ∷ []) x) (sym heads_are) pushed)) in
-    record {
-      good = subst Good (sym items) (good_push ns n s.good c.requires.fits c.requires.fresh);
-      linked = subst (λ k. LinkedBy k (vec_items c.push_reserved-2.new.self) (vec_items c.push_reserved.new.self) (set hs b c.len-2.result)) new_wide linked;
-      within = omega (arith, c.push_reserved-2.ensures.len, c.requires.room);
-      room = omega (arith, c.push_reserved-2.ensures.capacity, s.room);
-      next_room = omega (arith, c.push_reserved.ensures.capacity, s.next_room);
-      small = s.small;
-    }
+    subst (λ k. LinkedBy k (vec_items c.push_reserved-2.new.self) (vec_items c.push_reserved.new.self) (set hs b c.len-2.result)) new_wide linked

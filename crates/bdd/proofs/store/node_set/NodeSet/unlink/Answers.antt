@@ -7,8 +7,12 @@ use Rattle.bdd.proofs.Values.{grown_push}
 use Rattle.bdd.proofs.Chains.{linked_pop, good_pop}
 use Rattle.bdd.proofs.store.node_set.NodeSet.unlink.Goals as goal
 
-pub invariant_of-self : goal.invariant_of-self
-invariant_of-self c =
+pub invariant_of-self-clause-good : goal.invariant_of-self-clause-good
+invariant_of-self-clause-good c =
+    good_pop (vec_items c.take_last-n.new.self) c.take_last-n.result (subst Good c.take_last-n.ensures.items c.args.self.now.good)
+
+pub invariant_of-self-clause-linked : goal.invariant_of-self-clause-linked
+invariant_of-self-clause-linked c =
     let s = c.args.self.now in
     let ms : List Node = vec_items s.nodes in
     let ns : List Node = vec_items c.take_last-n.new.self in
@@ -30,17 +34,4 @@ invariant_of-self c =
     let popped = linked_pop m ns nx hs n x l nl (subst (λ k. k < m) bis blt) in
     let linked : LinkedBy m ns nx (set hs b x) = subst (λ k. LinkedBy m ns nx (set hs k x)) (sym bis) popped in
     let new_wide : m ≡ length (set hs b x) = sym (length-set hs b x) in
-    let len = c.take_last-n.ensures.len in
-    record {
-      good = good_pop ns n (subst Good items s.good);
-      linked = subst (λ k. LinkedBy k ns nx (set hs b x)) new_wide linked;
-      within = omega (arith, s.within);
-      room = omega (arith, c.take_last-n.ensures.capacity, s.room);
-      next_room = omega (arith, c.take_last-before.ensures.capacity, s.next_room);
-      small = s.small;
-    }
-
-pub returns : goal.returns
-returns c =
-    let ns : List Node = vec_items c.take_last-n.new.self in
-    record { limit = refl; len = search rules; nodes = subst (Grown ns) (sym c.take_last-n.ensures.items) (grown_push ns c.take_last-n.result) }
+    subst (λ k. LinkedBy k ns nx (set hs b x)) new_wide linked
