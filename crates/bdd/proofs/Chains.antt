@@ -136,25 +136,6 @@ module _ (m : ℕ) (ns : List Node) (next heads : List ℕ) (n : Node) (l : Link
             (cases_lt j (length ns));
       }
 
-  -- one step along a bucket
-  pub chain_head : (b : ℕ) (w : Node) → b ≡ bucket_of m w → b < m
-      → (get_or heads b 0 ≤ length ns) × (0 < get_or heads b 0 → bucket_of m (node_at ns (get_or heads b 0 - 1)) ≡ bucket_of m w) × ((k : ℕ) → k < length ns → node_at ns k ≡ w → k < get_or heads b 0)
-  chain_head b w is lt = (l.head_within b lt, (λ pos. l.head_same b lt pos ∙ is), (λ k h e. subst (λ c. k < get_or heads c 0) (ap (bucket_of m) e ∙ sym is) (l.head_past k h)))
-
-  pub chain_next : (at : ℕ) (w : Node) → 0 < at → at ≤ length ns → bucket_of m (node_at ns (at - 1)) ≡ bucket_of m w → (node_at ns (at - 1) ≡ w → ⊥) → ((k : ℕ) → k < length ns → node_at ns k ≡ w → k < at)
-      → (get_or next (at - 1) 0 ≤ length ns) × (0 < get_or next (at - 1) 0 → bucket_of m (node_at ns (get_or next (at - 1) 0 - 1)) ≡ bucket_of m w) × ((k : ℕ) → k < length ns → node_at ns k ≡ w → k < get_or next (at - 1) 0)
-  chain_next at w pos within same ne past =
-      let j : ℕ = at - 1 in
-      let inside : j < length ns = omega arith in
-      let back = l.next_back j inside in (
-        omega arith,
-        (λ p. l.next_same j inside p ∙ same),
-        (λ k h e.
-            let lt = past k h e in
-            let kj : k < j = ⊎_elim (λ eq. absurd (ne (ap (node_at ns) (sym eq) ∙ e))) (λ neq. omega arith) (cases_eq k j) in
-            l.next_past k j kj inside (ap (bucket_of m) e ∙ sym same)),
-      )
-
 -- a table without its last node
 pub good_pop : (ns : List Node) (n : Node) → Good (ns ++ n ∷ []) → Good ns
 good_pop ns n good =
@@ -237,19 +218,3 @@ linked_pop m ns next heads n x l nl within =
           ap (λ i. bucket_of m (node_at ns i)) at ∙ sym (old (get_or nx j 0 - 1) (omega arith)) ∙ l.next_same j (omega arith) (omega arith) ∙ old j lt;
       next_past = λ i j ij lt same. omega (arith, old_next j lt, l.next_past i j ij (omega arith) (old i (omega arith) ∙ same ∙ sym (old j lt)));
     }
-
-pub linked_none : (m : ℕ) (heads : List ℕ) → 0 < m → length heads ≡ m → ((b : ℕ) → b < m → get_or heads b 0 ≡ 0) → LinkedBy m [] [] heads
-linked_none m heads pos wide none = record {
-  wide = wide;
-  some = pos;
-  long = refl;
-  head_within = λ b lt. omega (arith, none b lt);
-  head_same = λ b lt p. absurd (omega (arith, none b lt));
-  head_past = λ i h. absurd (omega arith);
-  next_back = λ j h. absurd (omega arith);
-  next_same = λ j h. absurd (omega arith);
-  next_past = λ i j ij h. absurd (omega arith);
-}
-
-pub good_none : Good []
-good_none = record { fits = λ i h. absurd (omega arith); apart = λ i j h. absurd (omega arith) }

@@ -141,11 +141,5 @@ turn_marked ns e n i ms ms' good in-ns in-ms pos le marks mark is =
     subst (λ x. Marks ns e n (i - 1) (at x)) (sym is)
     (marks_step ns e n (i - 1) ms good in-ns in-ms (omega arith) mark (subst (λ k. Marks ns e n k (at ms)) ij marks))
 
--- and at one that is not
-pub turn_skipped : (ns : List Node) (e n i : ℕ) (ms : List Bool) → 0 < i → Marks ns e n i (at ms) → at ms (i - 1) ≡ false → Marks ns e n (i - 1) (at ms)
-turn_skipped ns e n i ms pos marks mark =
-    let ij : i ≡ suc (i - 1) = omega arith in
-    marks_skip ns e n (i - 1) (at ms) mark (subst (λ k. Marks ns e n k (at ms)) ij marks)
-
 pub turn_start : (ns : List Node) (e : ℕ) (ms ms' : List Bool) → Good ns → e / 2 ≤ length ns → e / 2 ≤ length ms → ((k : ℕ) → k < e / 2 → at ms k ≡ false) → ms' ≡ with_mark ms (e / 2) → Marks ns e (e / 2) (e / 2) (at ms')
 turn_start ns e ms ms' good inside room none is = subst (λ x. Marks ns e (e / 2) (e / 2) (at x)) (sym is) (marks_start ns e ms good inside room none)

@@ -141,12 +141,6 @@ cofactor_read ns e v r n b good inside at lt read ris =
 pub cofactor_same : (ns : List Node) (e v : ℕ) (b : Bool) → e / 2 ≤ length ns → v ≤ top ns e → (top ns e ≡ v → ⊥) → Cofactor ns e v b e
 cofactor_same ns e v b inside le ne = record { inside = inside; later = omega arith; no_deeper = omega arith; deeper = λ h. absurd (ne h); value_is = λ ρ h. refl }
 
-pub turn_even : (e c : ℕ) → e % 2 ≡ 0 → c ≡ turn e c
-turn_even e c h = grind (arith, nat_tests)
-
-pub turn_odd : (e c : ℕ) → (e % 2 ≡ 0 → ⊥) → flip c ≡ turn e c
-turn_odd e c h = grind (arith, nat_tests)
-
 pub var_kept : (ns ms : List Node) (j : ℕ) → Grown ns ms → j ≤ length ns → var_at ms j ≡ var_at ns j
 var_kept ns ms zero g h = refl
 var_kept ns ms (suc i) g h = ap (λ n. n.var) (g.kept i h)

@@ -1,5 +1,4 @@
 -- No entry of the cache counts.
-use Rattle.std.proofs.Common.{arith}
 use Rattle.bdd.proofs.store.Table.cut.Goals as goal
 
 pub invariant_of-self-clause-cached : goal.invariant_of-self-clause-cached

@@ -1,5 +1,4 @@
 -- An empty cache is right.
-use Rattle.std.proofs.Common.{arith}
 use Rattle.bdd.proofs.store.Table.new.Goals as goal
 
 pub invariant_of-result-clause-cached : goal.invariant_of-result-clause-cached

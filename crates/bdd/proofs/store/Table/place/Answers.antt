@@ -1,5 +1,5 @@
 -- The node that was added is the last.
-use Rattle.std.proofs.Common.{vec_items, sym, subst, arith}
+use Rattle.std.proofs.Common.{vec_items, sym, subst}
 use Rattle.bdd.specs.Diagram.{Grown}
 use Rattle.bdd.specs.Contents.{nodes_of}
 use Rattle.bdd.proofs.Values.{grown_push}

@@ -5,7 +5,7 @@ use Rattle.bdd.specs.declared.store.nodes.Node.{Node}
 use Rattle.bdd.specs.Diagram.{top}
 use Rattle.bdd.specs.Contents.{nodes_of}
 use Rattle.bdd.specs.Codes.{Walking}
-use Rattle.bdd.proofs.Walks.{walk_start, walk_high, walk_low, walk_end, first_few, first_next}
+use Rattle.bdd.proofs.Walks.{walk_high, walk_low, walk_end, first_few, first_next}
 use Rattle.bdd.proofs.store.Table.separate.Goals as goal
 use Rattle.bdd.proofs.store.Table.separate.Goals.{then-e-gt-TRUE, else-e-gt-TRUE+then-f-gt-TRUE}
 

@@ -1,7 +1,7 @@
 -- The nodes that are left are the first ones, as many as the mark says.
-use Rattle.std.proofs.Common.{◌≡◌, List, length, vec_items, refl, ◌∙◌, arith}
+use Rattle.std.proofs.Common.{◌≡◌, List, length, vec_items, arith}
 use Rattle.bdd.specs.declared.store.nodes.Node.{Node}
-use Rattle.bdd.proofs.Values.{grown_self, grown_on, grown_take}
+use Rattle.bdd.proofs.Values.{grown_take}
 use Rattle.bdd.proofs.store.node_set.NodeSet.cut.Goals as goal
 
 pub returns-clause-nodes : goal.returns-clause-nodes

@@ -1,9 +1,8 @@
 -- With one node less the nodes are good, and the index has each.
-use Rattle.std.proofs.Common.{◌≡◌, ℕ, ◌+◌, ◌<◌, List, [], ◌∷◌, ◌++◌, length, set, vec_items, sym, ap, refl, ◌∙◌, subst, arith, length-append, length-set, rules}
+use Rattle.std.proofs.Common.{◌≡◌, ℕ, ◌+◌, ◌<◌, List, [], ◌∷◌, ◌++◌, length, set, vec_items, sym, ap, ◌∙◌, subst, arith, length-append, length-set, rules}
 use Rattle.bdd.specs.declared.store.nodes.Node.{Node}
-use Rattle.bdd.specs.Diagram.{Good, Grown}
+use Rattle.bdd.specs.Diagram.{Good}
 use Rattle.bdd.specs.Index.{bucket_of, LinkedBy}
-use Rattle.bdd.proofs.Values.{grown_push}
 use Rattle.bdd.proofs.Chains.{linked_pop, good_pop}
 use Rattle.bdd.proofs.store.node_set.NodeSet.unlink.Goals as goal
 
