@@ -8,7 +8,7 @@ use Rattle.bdd.specs.Laws.{TooMany}
 use Rattle.bdd.specs.Contents.{nodes_of, limit_of}
 use Rattle.bdd.specs.Composing.{Is, NoRoom, Denotes, Extends, choice, ChoiceStep}
 use Rattle.bdd.proofs.Values.{none_is}
-use Rattle.bdd.proofs.Composing.{room_refused, room_before, extends_more, extends_on, still_on, denotes_is, half_is, neither_half, turned_over}
+use Rattle.bdd.proofs.Composing.{room_refused, room_before, extends_more, extends_on, denotes_is, half_is, neither_half, turned_over}
 use Rattle.bdd.proofs.store.Table.choose.Goals as goal
 use Rattle.bdd.proofs.store.Table.choose.Goals.{After-meet-2, After-meet-3}
 
