@@ -24,17 +24,24 @@ fn carry(images: &[Edge], e: Edge) -> Edge
     turned(e, straight)
 }
 
+// The edge `by` in the place of the variable `var`.
+#[derive(Clone, Copy, Drop)]
+pub(crate) struct Substitution {
+    pub(crate) var: u16,
+    pub(crate) by: Edge,
+}
+
 impl Table {
-    // What takes the place of the variable w: g in that of v, and else the variable itself.
-    fn test(&mut self, w: u16, v: u16, g: Edge) -> Option<Edge>
+    // What takes the place of the variable w.
+    fn test(&mut self, w: u16, put: Substitution) -> Option<Edge>
         requires bounded { w < 4096 }
-        requires within { Within (nodes_of self.old) g }
+        requires within { Within (nodes_of self.old) put.by }
         ensures still { Still self.old self.new }
-        ensures extends { Extends (λ φ. Is φ (tested (nodes_of self.old) v g w)) self.old self.new }
-        ensures cases { MatchOption result (TooMany (nodes_of self.old) (limit_of self.old) (tested (nodes_of self.old) v g w)) (λ e. Denotes (nodes_of self.new) e (tested (nodes_of self.old) v g w)) }
+        ensures extends { Extends (λ φ. Is φ (tested (nodes_of self.old) put.var put.by w)) self.old self.new }
+        ensures cases { MatchOption result (TooMany (nodes_of self.old) (limit_of self.old) (tested (nodes_of self.old) put.var put.by w)) (λ e. Denotes (nodes_of self.new) e (tested (nodes_of self.old) put.var put.by w)) }
     {
-        if w == v {
-            return Some(g);
+        if w == put.var {
+            return Some(put.by);
         }
         self.mk(&Node {
             var: w,
@@ -58,38 +65,38 @@ impl Table {
         Some(inverse(neither))
     }
 
-    // The image of the node i, whose children have theirs. A node past v is its own.
-    fn image(&mut self, i: usize, v: u16, g: Edge) -> Option<Edge>
+    // The image of the node i, whose children have theirs. A node past the variable is its own.
+    fn image(&mut self, i: usize, put: Substitution) -> Option<Edge>
         requires inside { i < length (nodes_of self.old) }
-        requires within { Within (nodes_of self.old) g }
-        requires high { Denotes (nodes_of self.old) (carried self.old.images.items (node_at (nodes_of self.old) i).high) (composed (nodes_of self.old) v g (node_at (nodes_of self.old) i).high) }
-        requires low { Denotes (nodes_of self.old) (carried self.old.images.items (node_at (nodes_of self.old) i).low) (composed (nodes_of self.old) v g (node_at (nodes_of self.old) i).low) }
+        requires within { Within (nodes_of self.old) put.by }
+        requires high { Denotes (nodes_of self.old) (carried self.old.images.items (node_at (nodes_of self.old) i).high) (composed (nodes_of self.old) put.var put.by (node_at (nodes_of self.old) i).high) }
+        requires low { Denotes (nodes_of self.old) (carried self.old.images.items (node_at (nodes_of self.old) i).low) (composed (nodes_of self.old) put.var put.by (node_at (nodes_of self.old) i).low) }
         ensures still { Still self.old self.new }
-        ensures extends { Extends (NodeStep (nodes_of self.old) v g i) self.old self.new }
-        ensures cases { MatchOption result (NoRoom (NodeStep (nodes_of self.old) v g i) (nodes_of self.old) (limit_of self.old)) (λ e. Denotes (nodes_of self.new) e (composed (nodes_of self.old) v g (2 * (i + 1)))) }
+        ensures extends { Extends (NodeStep (nodes_of self.old) put.var put.by i) self.old self.new }
+        ensures cases { MatchOption result (NoRoom (NodeStep (nodes_of self.old) put.var put.by i) (nodes_of self.old) (limit_of self.old)) (λ e. Denotes (nodes_of self.new) e (composed (nodes_of self.old) put.var put.by (2 * (i + 1)))) }
     {
         let n = self.set.nodes[i];
-        if n.var > v {
+        if n.var > put.var {
             return Some(edge_to(i));
         }
         let high = carry(&self.images, n.high);
         let low = carry(&self.images, n.low);
-        let test = self.test(n.var, v, g)?;
+        let test = self.test(n.var, put)?;
         self.choose(test, high, low)
     }
 
     // Gives each node of the diagram its image; none where nodes are wanting, and those made so far stay.
-    fn map_diagram(&mut self, f: Edge, v: u16, g: Edge) -> Option<()>
+    fn map_diagram(&mut self, f: Edge, put: Substitution) -> Option<()>
         requires f_within { Within (nodes_of self.old) f }
-        requires g_within { Within (nodes_of self.old) g }
-        ensures extends { Extends (ComposeStep (nodes_of self.old) f v g) self.old self.new }
-        ensures cases { MatchOption result (NoRoom (ComposeStep (nodes_of self.old) f v g) (nodes_of self.old) (limit_of self.old)) (λ _. Denotes (nodes_of self.new) (carried self.new.images.items f) (composed (nodes_of self.old) v g f)) }
+        requires g_within { Within (nodes_of self.old) put.by }
+        ensures extends { Extends (ComposeStep (nodes_of self.old) f put.var put.by) self.old self.new }
+        ensures cases { MatchOption result (NoRoom (ComposeStep (nodes_of self.old) f put.var put.by) (nodes_of self.old) (limit_of self.old)) (λ _. Denotes (nodes_of self.new) (carried self.new.images.items f) (composed (nodes_of self.old) put.var put.by f)) }
     {
         let set = &self.set;
         mark_diagram(&set.nodes, &mut self.marks, f);
         for i in 0..place_of(f) {
             if self.marks[i] {
-                self.images[i] = self.image(i, v, g)?;
+                self.images[i] = self.image(i, put)?;
             }
         }
         Some(())
@@ -103,7 +110,7 @@ impl Table {
         ensures { MatchOption result (Unchanged self.old self.new × NoRoom (ComposeStep (nodes_of self.old) f v g) (nodes_of self.old) (limit_of self.old)) (λ e. Extends (ComposeStep (nodes_of self.old) f v g) self.old self.new × Denotes (nodes_of self.new) e (composed (nodes_of self.old) v g f)) }
     {
         let mark = self.len();
-        if self.map_diagram(f, v, g).is_none() {
+        if self.map_diagram(f, Substitution { var: v, by: g }).is_none() {
             self.cut(mark);
             return None;
         }
