@@ -110,7 +110,10 @@ impl Table {
         ensures { MatchOption result (Unchanged self.old self.new × NoRoom (ComposeStep (nodes_of self.old) f v g) (nodes_of self.old) (limit_of self.old)) (λ e. Extends (ComposeStep (nodes_of self.old) f v g) self.old self.new × Denotes (nodes_of self.new) e (composed (nodes_of self.old) v g f)) }
     {
         let mark = self.len();
-        if self.map_diagram(f, Substitution { var: v, by: g }).is_none() {
+        if self
+            .map_diagram(f, Substitution { var: v, by: g })
+            .is_none()
+        {
             self.cut(mark);
             return None;
         }
