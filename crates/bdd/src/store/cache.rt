@@ -8,16 +8,16 @@ use std::alloc::{AllocError, Global};
 /// Two diagrams, in the order of the call.
 #[derive(Clone, Copy, PartialEq, Eq, Debug, Drop)]
 pub struct Pair {
-    pub(crate) f: Edge,
-    pub(crate) g: Edge,
+    pub(super) f: Edge,
+    pub(super) g: Edge,
 }
 
 /// That `result` is the conjunction of the pair, known under this stamp.
 #[derive(Clone, Copy, Drop)]
 pub struct Entry {
-    pub(crate) pair: Pair,
-    pub(crate) result: Edge,
-    pub(crate) stamp: u32,
+    pair: Pair,
+    result: Edge,
+    stamp: u32,
 }
 
 // An entry under no stamp.

@@ -26,9 +26,9 @@ fn carry(images: &[Edge], e: Edge) -> Edge
 
 // The edge `by` in the place of the variable `var`.
 #[derive(Clone, Copy, Drop)]
-pub(crate) struct Substitution {
-    pub(crate) var: u16,
-    pub(crate) by: Edge,
+struct Substitution {
+    var: u16,
+    by: Edge,
 }
 
 impl Table {

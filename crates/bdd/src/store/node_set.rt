@@ -17,7 +17,7 @@ use std::alloc::{AllocError, Global};
 // `next` lies beside `nodes`, and not in each, since all but a search reads a slice of nodes alone.
 #[derive(Drop)]
 pub struct NodeSet {
-    pub(crate) nodes: Vec<Node>,
+    pub(super) nodes: Vec<Node>,
     next: Vec<u32>,
     heads: Vec<u32>,
     limit: usize,
