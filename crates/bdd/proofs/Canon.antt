@@ -3,9 +3,9 @@ use Rattle.std.proofs.Common.{◌≡◌, ℕ, zero, suc, ◌+◌, ◌-◌, ◌/�
 use Rattle.std.proofs.lemmas.Bool.Decides.{nat_tests}
 use Rattle.std.proofs.lemmas.Bool.{cases_order, eq-eqb, ne_eqb}
 use Rattle.bdd.specs.declared.store.nodes.Node.{Node}
-use Rattle.bdd.specs.Diagram.{node, node_at, turned, inverted, branch, value, eval, var_at, top, Good, Same}
+use Rattle.bdd.specs.Diagram.{node, node_at, turned, inverted, branch, value, eval, var_at, top, Good, Same, turn}
 use Rattle.bdd.specs.Steps.{Cofactor}
-use Rattle.bdd.proofs.Values.{branch_like, branch_child, turned_even, turn, cofactor_here, cofactor_same, inner}
+use Rattle.bdd.proofs.Values.{branch_like, branch_child, turned_even, cofactor_here, cofactor_same, inner}
 use Rattle.bdd.proofs.Joins.{var_bound, var_inner}
 
 -- ρ with v set to b

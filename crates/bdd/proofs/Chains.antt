@@ -6,7 +6,7 @@ use Rattle.bdd.specs.declared.store.nodes.Node.{Node}
 use Rattle.bdd.specs.declared.store.cache.Entry.{Entry}
 use Rattle.bdd.specs.Diagram.{node, node_at, Fits, Good, Grown}
 use Rattle.bdd.specs.Steps.{Both}
-use Rattle.bdd.specs.Sound.{Right, entry}
+use Rattle.bdd.specs.Caching.{KnownAfter, AllRight, Right}
 use Rattle.bdd.specs.Index.{LinkedBy, bucket_of}
 use Rattle.bdd.proofs.Values.{eval_kept, var_kept, grown_push}
 
@@ -36,17 +36,28 @@ both_up ns ms f g r good grown inf ing b =
       value_is = λ ρ. b.value_is ρ ∙ sym (ap₂ ◌&&◌ (eval_kept ns ms ρ f good grown inf) (eval_kept ns ms ρ g good grown ing));
     }
 
-pub right_up : (ns ms : List Node) (f g r s : ℕ) → Good ns → Grown ns ms → f / 2 ≤ length ns → g / 2 ≤ length ns → Both ns ms f g r → Right ms (entry f g r s)
-right_up ns ms f g r s good grown inf ing b =
+pub right_up : (ns ms : List Node) (f g r : ℕ) → Good ns → Grown ns ms → f / 2 ≤ length ns → g / 2 ≤ length ns → Both ns ms f g r → Right ms f g r
+right_up ns ms f g r good grown inf ing b =
     let longer = grown.longer in
     record { f_inside = omega arith; g_inside = omega arith; both = both_up ns ms f g r good grown inf ing b }
 
-pub right_kept : (ns ms : List Node) (e : Entry) → Good ns → Grown ns ms → Right ns e → Right ms e
-right_kept ns ms e good grown r =
+pub right_kept : (ns ms : List Node) (f g r : ℕ) → Good ns → Grown ns ms → Right ns f g r → Right ms f g r
+right_kept ns ms f g r good grown right =
     let longer = grown.longer in
-    let a = r.f_inside in
-    let b = r.g_inside in
-    record { f_inside = omega arith; g_inside = omega arith; both = both_kept ns ms e.f e.g e.result good grown r.f_inside r.g_inside r.both }
+    let a = right.f_inside in
+    let b = right.g_inside in
+    record { f_inside = omega arith; g_inside = omega arith; both = both_kept ns ms f g r good grown right.f_inside right.g_inside right.both }
+
+-- what is right stays so when nodes are added
+pub all_right_kept : (ns ms : List Node) (es : List Entry) (stamp : ℕ) → Good ns → Grown ns ms → AllRight ns es stamp → AllRight ms es stamp
+all_right_kept ns ms es stamp good grown all f g r known = right_kept ns ms f g r good grown (all f g r known)
+
+-- and when a conjunction is remembered that is right
+pub all_right_after : (ns : List Node) (old new : List Entry) (stamp f g r : ℕ) → KnownAfter old new stamp f g r → Right ns f g r → AllRight ns old stamp → AllRight ns new stamp
+all_right_after ns old new stamp f g r after right all f' g' r' known = ⊎_elim
+    (λ before. all f' g' r' before)
+    (λ is. subst (λ x. Right ns x g' r') (sym is.0) (subst (λ x. Right ns f x r') (sym is.1) (subst (λ x. Right ns f g x) (sym is.2) right)))
+    (after f' g' r' known)
 
 module _ (m : ℕ) (ns : List Node) (next heads : List ℕ) (n : Node) (l : LinkedBy m ns next heads) where
   pub linked_push : bucket_of m n < m → LinkedBy m (ns ++ n ∷ []) (next ++ get_or heads (bucket_of m n) 0 ∷ []) (set heads (bucket_of m n) (length ns + 1))
@@ -124,25 +135,6 @@ module _ (m : ℕ) (ns : List Node) (next heads : List ℕ) (n : Node) (l : Link
             omega (arith, eq, subst (λ c. i < get_or heads c 0) at (l.head_past i lti)))
             (cases_lt j (length ns));
       }
-
-  -- one step along a bucket
-  pub chain_head : (b : ℕ) (w : Node) → b ≡ bucket_of m w → b < m
-      → (get_or heads b 0 ≤ length ns) × (0 < get_or heads b 0 → bucket_of m (node_at ns (get_or heads b 0 - 1)) ≡ bucket_of m w) × ((k : ℕ) → k < length ns → node_at ns k ≡ w → k < get_or heads b 0)
-  chain_head b w is lt = (l.head_within b lt, (λ pos. l.head_same b lt pos ∙ is), (λ k h e. subst (λ c. k < get_or heads c 0) (ap (bucket_of m) e ∙ sym is) (l.head_past k h)))
-
-  pub chain_next : (at : ℕ) (w : Node) → 0 < at → at ≤ length ns → bucket_of m (node_at ns (at - 1)) ≡ bucket_of m w → (node_at ns (at - 1) ≡ w → ⊥) → ((k : ℕ) → k < length ns → node_at ns k ≡ w → k < at)
-      → (get_or next (at - 1) 0 ≤ length ns) × (0 < get_or next (at - 1) 0 → bucket_of m (node_at ns (get_or next (at - 1) 0 - 1)) ≡ bucket_of m w) × ((k : ℕ) → k < length ns → node_at ns k ≡ w → k < get_or next (at - 1) 0)
-  chain_next at w pos within same ne past =
-      let j : ℕ = at - 1 in
-      let inside : j < length ns = omega arith in
-      let back = l.next_back j inside in (
-        omega arith,
-        (λ p. l.next_same j inside p ∙ same),
-        (λ k h e.
-            let lt = past k h e in
-            let kj : k < j = ⊎_elim (λ eq. absurd (ne (ap (node_at ns) (sym eq) ∙ e))) (λ neq. omega arith) (cases_eq k j) in
-            l.next_past k j kj inside (ap (bucket_of m) e ∙ sym same)),
-      )
 
 -- a table without its last node
 pub good_pop : (ns : List Node) (n : Node) → Good (ns ++ n ∷ []) → Good ns
@@ -226,19 +218,3 @@ linked_pop m ns next heads n x l nl within =
           ap (λ i. bucket_of m (node_at ns i)) at ∙ sym (old (get_or nx j 0 - 1) (omega arith)) ∙ l.next_same j (omega arith) (omega arith) ∙ old j lt;
       next_past = λ i j ij lt same. omega (arith, old_next j lt, l.next_past i j ij (omega arith) (old i (omega arith) ∙ same ∙ sym (old j lt)));
     }
-
-pub linked_none : (m : ℕ) (heads : List ℕ) → 0 < m → length heads ≡ m → ((b : ℕ) → b < m → get_or heads b 0 ≡ 0) → LinkedBy m [] [] heads
-linked_none m heads pos wide none = record {
-  wide = wide;
-  some = pos;
-  long = refl;
-  head_within = λ b lt. omega (arith, none b lt);
-  head_same = λ b lt p. absurd (omega (arith, none b lt));
-  head_past = λ i h. absurd (omega arith);
-  next_back = λ j h. absurd (omega arith);
-  next_same = λ j h. absurd (omega arith);
-  next_past = λ i j ij h. absurd (omega arith);
-}
-
-pub good_none : Good []
-good_none = record { fits = λ i h. absurd (omega arith); apart = λ i j h. absurd (omega arith) }

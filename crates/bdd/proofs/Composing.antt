@@ -8,9 +8,9 @@ use Rattle.bdd.specs.Diagram.{eval, flip, Good, Grown}
 use Rattle.bdd.specs.Parts.{PartOf, conj}
 use Rattle.bdd.specs.Size.{Fn, parts, distinct, table, all_parts, In, Only}
 use Rattle.bdd.specs.Laws.{Held, TooMany}
-use Rattle.bdd.specs.Sound.{Sound, nodes_of}
+use Rattle.bdd.specs.Contents.{nodes_of}
 use Rattle.bdd.specs.Composing.{Is, Among, NoRoom, Denotes, Extends, Still, choice}
-use Rattle.bdd.proofs.Values.{eval_kept, eval_flip, flip_half, grown_self, grown_on, not_not}
+use Rattle.bdd.proofs.Values.{eval_kept, eval_flip, flip_half, grown_on, not_not}
 use Rattle.bdd.proofs.Growth.{part_kept}
 use Rattle.bdd.proofs.Pigeons.{Known, known_left, known_right}
 use Rattle.bdd.proofs.Counting.{part_input, held_kept}
@@ -70,7 +70,7 @@ room_before S t u limit good x none vs φs asc vars held steps =
     none vs φs asc
     (λ i h. ⊎_elim
     (λ lt. subst (λ n. In n.var vs) (sym (x.grown.kept i lt)) (vars i lt))
-    (λ ge. let p = x.parts i ge h in part_input ms vs p.step i x.sound.good h (steps p.step p.is_step).1 p.part)
+    (λ ge. let p = x.parts i ge h in part_input ms vs p.step i u.set.good h (steps p.step p.is_step).1 p.part)
     (cases_lt i (length ns)))
     (λ i h. ⊎_elim
     (λ lt. held_kept ns ms vs i φs good x.grown lt (held i lt))
@@ -78,12 +78,8 @@ room_before S t u limit good x none vs φs asc vars held steps =
     (cases_lt i (length ns)))
     steps
 
-pub extends_self : (S : ((ℕ → Bool) → Bool) → Type 0) (t : Table) → Sound t → Extends S t t
-extends_self S t s = record { sound = s; limit_is = refl; grown = grown_self (nodes_of t); parts = λ i a b. absurd (omega arith) }
-
 pub extends_more : (S S' : ((ℕ → Bool) → Bool) → Type 0) (t u : Table) → ((φ : (ℕ → Bool) → Bool) → S φ → S' φ) → Extends S t u → Extends S' t u
 extends_more S S' t u up x = record {
-  sound = x.sound;
   limit_is = x.limit_is;
   grown = x.grown;
   parts = λ i a b. let p = x.parts i a b in record { step = p.step; is_step = up p.step p.is_step; part = p.part };
@@ -91,11 +87,10 @@ extends_more S S' t u up x = record {
 
 pub extends_on : (S : ((ℕ → Bool) → Bool) → Type 0) (t u w : Table) → Extends S t u → Extends S u w → Extends S t w
 extends_on S t u w x y = record {
-  sound = y.sound;
   limit_is = y.limit_is ∙ x.limit_is;
   grown = grown_on (nodes_of t) (nodes_of u) (nodes_of w) x.grown y.grown;
   parts = λ i a b. ⊎_elim
-      (λ lt. let p = x.parts i a lt in record { step = p.step; is_step = p.is_step; part = part_kept (nodes_of u) (nodes_of w) p.step i x.sound.good y.grown lt p.part })
+      (λ lt. let p = x.parts i a lt in record { step = p.step; is_step = p.is_step; part = part_kept (nodes_of u) (nodes_of w) p.step i u.set.good y.grown lt p.part })
       (λ ge. y.parts i ge b)
       (cases_lt i (length (nodes_of u)));
 }

@@ -3,7 +3,7 @@ use Rattle.std.proofs.Common.{◌≡◌, ℕ, zero, suc, ◌+◌, ◌*◌, ◌/�
 use mathlib.Core.Path.{fun_ext}
 use Rattle.std.proofs.lemmas.Bool.{cases_eq, cases_lt, eq-eqb, ne_eqb, lt-ltb, le-ltb}
 use Rattle.bdd.specs.declared.store.nodes.Node.{Node}
-use Rattle.bdd.specs.Diagram.{node_at, turned, inverted, value, eval, var_at, top, Good, Grown}
+use Rattle.bdd.specs.Diagram.{node_at, turned, inverted, value, eval, var_at, top, Good, Grown, Within}
 use Rattle.bdd.specs.Steps.{Cofactor, Made, Both, Short, Parts, Lacking}
 use Rattle.bdd.specs.Parts.{fixed, PartOf, News, conj}
 use Rattle.bdd.proofs.Values.{branch_like, eval_kept, var_kept, grown_push, grown_on}
@@ -119,39 +119,54 @@ news_own ns n₂ n₃ f g v h l r good inf ing vis made both = ⊎_elim
     })
     made.news
 
-module _ (ns n₁ : List Node) (f g v fh gh fl gl : ℕ) (good : Good ns) (good₁ : Good n₁) (grown : Grown ns n₁) (vis : v ≡ min (top ns f) (top ns g))
-    (cfh : Cofactor ns f v true fh) (cgh : Cofactor ns g v true gh) (cfl : Cofactor ns f v false fl) (cgl : Cofactor ns g v false gl) where
+-- Two edges and their cofactors at the first variable of both: ns are the nodes at the call, and n₁ those after the high conjunction.
+pub record Split (ns n₁ : List Node) (f g v fh gh fl gl : ℕ) : Type 0 where
+  pub good : Good ns
+  pub good₁ : Good n₁
+  pub grown : Grown ns n₁
+  pub f_in : Within ns f
+  pub g_in : Within ns g
+  pub vis : v ≡ min (top ns f) (top ns g)
+  pub cfh : Cofactor ns f v true fh
+  pub cgh : Cofactor ns g v true gh
+  pub cfl : Cofactor ns f v false fl
+  pub cgl : Cofactor ns g v false gl
+
+module _ {ns n₁ : List Node} {f g v fh gh fl gl : ℕ} (d : Split ns n₁ f g v fh gh fl gl) where
   pub lift_high : (m₁ : List Node) → Parts ns m₁ fh gh → Parts ns m₁ f g
   lift_high m₁ p =
-      let a = cfh.later in
-      let b = cgh.later in
+      let a = d.cfh.later in
+      let b = d.cgh.later in
       news_lift (length ns) (min (top ns f) (top ns g)) (min (top ns fh) (top ns gh)) v true (conj ns f g) (conj ns fh gh) m₁ p (omega arith) (omega arith)
-      (λ ρ t. ap₂ ◌&&◌ (cfh.value_is ρ t) (cgh.value_is ρ t))
-      (λ ρ. ap₂ ◌&&◌ (eval_upd ns ρ v true fh good cfh.inside cfh.later) (eval_upd ns ρ v true gh good cgh.inside cgh.later))
+      (λ ρ t. ap₂ ◌&&◌ (d.cfh.value_is ρ t) (d.cgh.value_is ρ t))
+      (λ ρ. ap₂ ◌&&◌ (eval_upd ns ρ v true fh d.good d.cfh.inside d.cfh.later) (eval_upd ns ρ v true gh d.good d.cgh.inside d.cgh.later))
 
   pub lift_low : (m₂ : List Node) → Parts n₁ m₂ fl gl → News (length n₁) (min (top ns f) (top ns g)) (conj ns f g) m₂
   lift_low m₂ p =
-      let a = cfl.later in
-      let b = cgl.later in
-      let atf = var_kept ns n₁ (fl / 2) grown cfl.inside in
-      let atg = var_kept ns n₁ (gl / 2) grown cgl.inside in
-      let longer = grown.longer in
-      let inf = cfl.inside in
-      let ing = cgl.inside in
+      let a = d.cfl.later in
+      let b = d.cgl.later in
+      let atf = var_kept ns n₁ (fl / 2) d.grown d.cfl.inside in
+      let atg = var_kept ns n₁ (gl / 2) d.grown d.cgl.inside in
+      let longer = d.grown.longer in
+      let inf = d.cfl.inside in
+      let ing = d.cgl.inside in
       news_lift (length n₁) (min (top ns f) (top ns g)) (min (top n₁ fl) (top n₁ gl)) v false (conj ns f g) (conj n₁ fl gl) m₂ p (omega arith) (omega arith)
-      (λ ρ t. ap₂ ◌&&◌ (eval_kept ns n₁ ρ fl good grown cfl.inside ∙ cfl.value_is ρ t) (eval_kept ns n₁ ρ gl good grown cgl.inside ∙ cgl.value_is ρ t))
-      (λ ρ. ap₂ ◌&&◌ (eval_upd n₁ ρ v false fl good₁ (omega arith) (omega arith)) (eval_upd n₁ ρ v false gl good₁ (omega arith) (omega arith)))
+      (λ ρ t. ap₂ ◌&&◌ (eval_kept ns n₁ ρ fl d.good d.grown d.cfl.inside ∙ d.cfl.value_is ρ t) (eval_kept ns n₁ ρ gl d.good d.grown d.cgl.inside ∙ d.cgl.value_is ρ t))
+      (λ ρ. ap₂ ◌&&◌ (eval_upd n₁ ρ v false fl d.good₁ (omega arith) (omega arith)) (eval_upd n₁ ρ v false gl d.good₁ (omega arith) (omega arith)))
 
   pub parts_two : (m₂ : List Node) → Grown n₁ m₂ → Parts ns n₁ fh gh → Parts n₁ m₂ fl gl → Parts ns m₂ f g
-  parts_two m₂ g₂ ph pl = news_join (length ns) (min (top ns f) (top ns g)) (conj ns f g) n₁ m₂ good₁ g₂ (lift_high n₁ ph) (lift_low m₂ pl)
+  parts_two m₂ g₂ ph pl = news_join (length ns) (min (top ns f) (top ns g)) (conj ns f g) n₁ m₂ d.good₁ g₂ (lift_high n₁ ph) (lift_low m₂ pl)
 
-  pub parts_three : (n₂ m₃ : List Node) (h l r : ℕ) → Good n₂ → Grown n₁ n₂ → Grown n₂ m₃ → f / 2 ≤ length ns → g / 2 ≤ length ns → Parts ns n₁ fh gh → Parts n₁ n₂ fl gl
+  pub both_three : (n₂ m₃ : List Node) (h l r : ℕ) → Grown n₁ n₂ → Both ns n₁ fh gh h → Both n₁ n₂ fl gl l → Made n₂ m₃ v h l r → Both ns m₃ f g r
+  both_three n₂ m₃ h l r g₂ bh bl made = both_step ns n₁ n₂ m₃ f g v fh gh fl gl h l r d.good d.good₁ d.grown g₂ d.vis d.cfh d.cgh d.cfl d.cgl bh bl made
+
+  pub parts_three : (n₂ m₃ : List Node) (h l r : ℕ) → Good n₂ → Grown n₁ n₂ → Grown n₂ m₃ → Parts ns n₁ fh gh → Parts n₁ n₂ fl gl
       → Both ns n₁ fh gh h → Both n₁ n₂ fl gl l → Made n₂ m₃ v h l r → Parts ns m₃ f g
-  parts_three n₂ m₃ h l r good₂ g₂ g₃ inf ing ph pl bh bl made =
+  parts_three n₂ m₃ h l r good₂ g₂ g₃ ph pl bh bl made =
       news_join (length ns) (min (top ns f) (top ns g)) (conj ns f g) n₂ m₃ good₂ g₃ (parts_two n₂ g₂ ph pl)
-      (subst (λ w. News (length n₂) w (conj ns f g) m₃) vis
-      (news_own ns n₂ m₃ f g v h l r good inf ing vis made
-      (both_step ns n₁ n₂ m₃ f g v fh gh fl gl h l r good good₁ grown g₂ vis cfh cgh cfl cgl bh bl made)))
+      (subst (λ w. News (length n₂) w (conj ns f g) m₃) d.vis
+      (news_own ns n₂ m₃ f g v h l r d.good d.f_in d.g_in d.vis made
+      (both_three n₂ m₃ h l r g₂ bh bl made)))
 
   pub lacking_high : Lacking ns n₁ fh gh → Lacking ns n₁ f g
   lacking_high k = record { extra = k.extra; good = k.good; parts = lift_high (n₁ ++ k.extra ∷ []) k.parts }
@@ -159,10 +174,10 @@ module _ (ns n₁ : List Node) (f g v fh gh fl gl : ℕ) (good : Good ns) (good�
   pub lacking_low : (n₂ : List Node) → Grown n₁ n₂ → Parts ns n₁ fh gh → Lacking n₁ n₂ fl gl → Lacking ns n₂ f g
   lacking_low n₂ g₂ ph k = record { extra = k.extra; good = k.good; parts = parts_two (n₂ ++ k.extra ∷ []) (grown_on n₁ n₂ (n₂ ++ k.extra ∷ []) g₂ (grown_push n₂ k.extra)) ph k.parts }
 
-  pub lacking_own : (n₂ : List Node) (h l : ℕ) → Good n₂ → Grown n₁ n₂ → f / 2 ≤ length ns → g / 2 ≤ length ns → Parts ns n₁ fh gh → Parts n₁ n₂ fl gl
+  pub lacking_own : (n₂ : List Node) (h l : ℕ) → Good n₂ → Grown n₁ n₂ → Parts ns n₁ fh gh → Parts n₁ n₂ fl gl
       → Both ns n₁ fh gh h → Both n₁ n₂ fl gl l → Short n₂ v h l → Lacking ns n₂ f g
-  lacking_own n₂ h l good₂ g₂ inf ing ph pl bh bl s = record {
+  lacking_own n₂ h l good₂ g₂ ph pl bh bl s = record {
     extra = s.extra;
     good = s.good;
-    parts = parts_three n₂ (n₂ ++ s.extra ∷ []) h l s.result good₂ g₂ (grown_push n₂ s.extra) inf ing ph pl bh bl s.made;
+    parts = parts_three n₂ (n₂ ++ s.extra ∷ []) h l s.result good₂ g₂ (grown_push n₂ s.extra) ph pl bh bl s.made;
   }

@@ -1,5 +1,5 @@
 -- The images of nodes under a composition.
-use Rattle.std.proofs.Common.{◌≡◌, ℕ, zero, suc, ◌+◌, ◌-◌, ◌*◌, ◌/◌, ◌<◌, ◌≤◌, Bool, true, false, cond, not, ◌&&◌, ◌⊎◌, List, length, get_or, set, sym, ap, ◌∙◌, subst, ap₂, inl, inr, ⊎_elim, arith}
+use Rattle.std.proofs.Common.{◌≡◌, ℕ, zero, suc, ◌+◌, ◌*◌, ◌/◌, ◌<◌, ◌≤◌, Bool, true, false, cond, not, ◌&&◌, ◌⊎◌, List, length, get_or, set, sym, ap, ◌∙◌, subst, ap₂, inl, inr, ⊎_elim, arith}
 use Rattle.std.proofs.lemmas.List.{get_or-set_same, get_or-set_other}
 use Rattle.std.proofs.lemmas.Bool.{cases_Bool, cases_eq}
 use Rattle.bdd.specs.declared.store.nodes.Node.{Node}
@@ -8,12 +8,6 @@ use Rattle.bdd.specs.Marking.{Marked, Marks}
 use Rattle.bdd.specs.Composing.{Is, Denotes, choice, ChoiceStep, tested, composed, NodeStep, image_at, carried}
 use Rattle.bdd.proofs.Values.{eval_kept, eval_false, eval_child, turned_even, eval_turn, turn_half, child_fits}
 use Rattle.bdd.proofs.Canon.{upd, eval_upd}
-
-pub image_none : (images : List ℕ) (j : ℕ) → j ≡ 0 → image_at images j ≡ 0
-image_none images j is = ap (image_at images) is
-
-pub image_some : (images : List ℕ) (j : ℕ) → (j ≡ 0 → ⊥) → image_at images j ≡ get_or images (j - 1) 0
-image_some images j ne = let is : j ≡ suc (j - 1) = omega arith in ap (image_at images) is
 
 -- an edge's value, by that of its place
 pub eval_place : (ns : List Node) (ρ : ℕ → Bool) (e : ℕ) → eval ns ρ e ≡ turned (inverted e) (eval ns ρ (2 * (e / 2)))

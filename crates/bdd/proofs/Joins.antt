@@ -1,18 +1,15 @@
 -- The steps of a conjunction.
-use Rattle.std.proofs.Common.{◌≡◌, ℕ, zero, suc, ◌+◌, ◌/◌, ◌<◌, ◌≤◌, min, Bool, true, false, not, ◌&&◌, ◌⊎◌, List, length, vec_items, sym, refl, ap, ◌∙◌, ap₂, ⊎_elim, arith}
+use Rattle.std.proofs.Common.{◌≡◌, ℕ, zero, suc, ◌+◌, ◌/◌, ◌<◌, ◌≤◌, min, Bool, true, false, not, ◌&&◌, ◌⊎◌, List, length, sym, refl, ap, ◌∙◌, ap₂, ⊎_elim, arith}
 use Rattle.std.proofs.lemmas.Bool.{cases_Bool}
 use Rattle.bdd.specs.declared.store.nodes.Node.{Node}
 use Rattle.bdd.specs.declared.store.Table.{Table}
 use Rattle.bdd.specs.Diagram.{flip, eval, var_at, top, Good, Grown}
 use Rattle.bdd.specs.Steps.{Cofactor, Made, Both}
-use Rattle.bdd.specs.Sound.{Sound, Kept}
-use Rattle.bdd.proofs.Values.{eval_false, eval_true, eval_flip, eval_kept, var_kept, grown_self, grown_on}
-
-pub kept_self : (t : Table) → Sound t → Kept t t
-kept_self t s = record { sound = s; grown = grown_self (vec_items t.nodes); limit_is = refl; marks_is = refl; images_is = refl }
+use Rattle.bdd.specs.Contents.{Kept, nodes_of}
+use Rattle.bdd.proofs.Values.{eval_false, eval_true, eval_flip, eval_kept, var_kept, grown_on}
 
 pub kept_on : (t u w : Table) → Kept t u → Kept u w → Kept t w
-kept_on t u w k l = record { sound = l.sound; grown = grown_on (vec_items t.nodes) (vec_items u.nodes) (vec_items w.nodes) k.grown l.grown; limit_is = l.limit_is ∙ k.limit_is; marks_is = l.marks_is ∙ k.marks_is; images_is = l.images_is ∙ k.images_is }
+kept_on t u w k l = record { grown = grown_on (nodes_of t) (nodes_of u) (nodes_of w) k.grown l.grown; limit_is = l.limit_is ∙ k.limit_is; marks_is = l.marks_is ∙ k.marks_is; images_is = l.images_is ∙ k.images_is }
 
 pub var_bound : (ns : List Node) (j : ℕ) → Good ns → j ≤ length ns → var_at ns j ≤ 4096
 var_bound ns zero good h = omega arith

@@ -11,6 +11,7 @@ pub mod Counting
 pub mod Marks
 pub mod Marked
 pub mod Walks
+pub mod Leasts
 pub mod Reading
 pub mod Composing
 pub mod Images

@@ -6,7 +6,7 @@ use Rattle.std.proofs.lemmas.Bool.{cases_lt, cases_eq, lt-ltb, le-ltb, both_ways
 use Rattle.bdd.specs.declared.store.nodes.Node.{Node}
 use Rattle.bdd.specs.Diagram.{child, node_at, turned, inverted, eval, var_at, top, Good}
 use Rattle.bdd.specs.Parts.{fixed, PartOf}
-use Rattle.bdd.specs.Marking.{bit, tally, Marked, Marks, at, with_mark}
+use Rattle.bdd.specs.Marking.{Marked, Marks, at, with_mark}
 use Rattle.bdd.proofs.Values.{eval_child, turned_even, child_fits}
 use Rattle.bdd.proofs.Growth.{straight_of, eval_fixed}
 use Rattle.bdd.proofs.Canon.{upd, upd_at, upd_other, eval_upd}
@@ -141,21 +141,5 @@ turn_marked ns e n i ms ms' good in-ns in-ms pos le marks mark is =
     subst (λ x. Marks ns e n (i - 1) (at x)) (sym is)
     (marks_step ns e n (i - 1) ms good in-ns in-ms (omega arith) mark (subst (λ k. Marks ns e n k (at ms)) ij marks))
 
--- and at one that is not
-pub turn_skipped : (ns : List Node) (e n i : ℕ) (ms : List Bool) → 0 < i → Marks ns e n i (at ms) → at ms (i - 1) ≡ false → Marks ns e n (i - 1) (at ms)
-turn_skipped ns e n i ms pos marks mark =
-    let ij : i ≡ suc (i - 1) = omega arith in
-    marks_skip ns e n (i - 1) (at ms) mark (subst (λ k. Marks ns e n k (at ms)) ij marks)
-
 pub turn_start : (ns : List Node) (e : ℕ) (ms ms' : List Bool) → Good ns → e / 2 ≤ length ns → e / 2 ≤ length ms → ((k : ℕ) → k < e / 2 → at ms k ≡ false) → ms' ≡ with_mark ms (e / 2) → Marks ns e (e / 2) (e / 2) (at ms')
 turn_start ns e ms ms' good inside room none is = subst (λ x. Marks ns e (e / 2) (e / 2) (at x)) (sym is) (marks_start ns e ms good inside room none)
-
--- a turn of the loop that counts marks
-pub count_next : (m : ℕ → Bool) (n i count : ℕ) (b : Bool) → 0 < i → i ≤ n → m (i - 1) ≡ b → count ≡ tally m i (n - i) → bit b + count ≡ tally m (i - 1) (n - (i - 1))
-count_next m n i count b pos le own is =
-    let d : n - (i - 1) ≡ suc (n - i) = omega arith in
-    let up : suc (i - 1) ≡ i = omega arith in
-    let here : bit (m (i - 1)) ≡ bit b = ap bit own in
-    let next : tally m (suc (i - 1)) (n - i) ≡ tally m i (n - i) = ap (λ k. tally m k (n - i)) up in
-    let tallied : tally m (i - 1) (n - (i - 1)) ≡ bit (m (i - 1)) + tally m (suc (i - 1)) (n - i) = ap (tally m (i - 1)) d in
-    omega arith

@@ -1,13 +1,15 @@
 -- As many nodes are marked as the function has parts.
-use Rattle.std.proofs.Common.{◌≡◌, ℕ, zero, suc, ◌+◌, ◌-◌, ◌*◌, ◌/◌, ◌<◌, ◌≤◌, Bool, true, false, cond, ◌||◌, eqb, ◌⊎◌, List, [], ◌∷◌, ◌++◌, length, sym, refl, ap, ◌∙◌, subst, ap₂, inl, inr, ⊎_elim, arith}
+use Rattle.std.proofs.Common.{◌≡◌, take, ℕ, zero, suc, ◌+◌, ◌-◌, ◌*◌, ◌/◌, ◌<◌, ◌≤◌, Bool, true, false, cond, ◌||◌, eqb, ◌⊎◌, List, [], ◌∷◌, ◌++◌, length, sym, refl, ap, ◌∙◌, subst, ap₂, inl, inr, ⊎_elim, arith}
+use Rattle.std.specs.List.{count_by}
+use Rattle.std.proofs.lemmas.List.Sums.{count_by_more_yes, count_by_more_no}
 use mathlib.Core.Path.{fun_ext}
 use Rattle.std.proofs.lemmas.Bool.{cases_Bool, cases_lt, cases_eq, lt-ltb, le-ltb, eq-eqb, ne_eqb, both_ways, or_left, or_right}
 use Rattle.bdd.specs.declared.store.nodes.Node.{Node}
-use Rattle.bdd.specs.Diagram.{node_at, turned, inverted, eval, var_at, top, Good}
+use Rattle.bdd.specs.Diagram.{node_at, turned, inverted, eval, var_at, top, Good, turn}
 use Rattle.bdd.specs.Size.{Fn, one, fork, same, opposite, known, parts, distinct, table, size_of, In, Above, Ascending, Only}
 use Rattle.bdd.specs.Laws.{Inputs}
-use Rattle.bdd.specs.Marking.{bit, tally, Marked, Marks}
-use Rattle.bdd.proofs.Values.{turn, turn_half, cofactor_here, inner}
+use Rattle.bdd.specs.Marking.{at, Marked, Marks}
+use Rattle.bdd.proofs.Values.{turn_half, cofactor_here, inner}
 use Rattle.bdd.proofs.Growth.{straight_of, turned_twice}
 use Rattle.bdd.proofs.Canon.{upd, upd_at, upd_other}
 use Rattle.bdd.proofs.Pigeons.{same_of, Near, Known, known_is, known_near, near_on, near_sym, near_or_not}
@@ -29,6 +31,36 @@ without_true k m j h = ⊎_elim
     (λ e. absurd (both_ways (without k m j) (ap (without k m) e ∙ without_own k m) h))
     (λ ne. (sym (without_other k m j ne) ∙ h, ne))
     (cases_eq j k)
+
+abbrev bit : Bool → ℕ
+bit true = 1
+bit false = 0
+
+-- how many of d numbers from i on pass
+abbrev pub tally : (ℕ → Bool) → ℕ → ℕ → ℕ
+tally m i zero = 0
+tally m i (suc d) = bit (m i) + tally m (suc i) d
+
+tally_last : (m : ℕ → Bool) (i d : ℕ) → tally m i (suc d) ≡ tally m i d + bit (m (i + d))
+tally_last m i zero = let up : i + 0 ≡ i = omega arith in let own : bit (m (i + 0)) ≡ bit (m i) = ap (λ k. bit (m k)) up in omega arith
+tally_last m i (suc d) =
+    let up : suc i + d ≡ i + suc d = omega arith in
+    let own : bit (m (suc i + d)) ≡ bit (m (i + suc d)) = ap (λ k. bit (m k)) up in
+    omega (arith, tally_last m (suc i) d)
+
+-- counting the marks of a list is counting those of its places
+pub count_tally : (ms : List Bool) (n : ℕ) → n ≤ length ms → count_by (λ b. b) (take n ms) ≡ tally (at ms) 0 n
+count_tally ms zero le = refl
+count_tally ms (suc n) le =
+    let up : suc n ≡ n + 1 = omega arith in
+    let one : count_by (λ b. b) (take (suc n) ms) ≡ count_by (λ b. b) (take (n + 1) ms) = ap (λ k. count_by (λ b. b) (take k ms)) up in
+    let before = count_tally ms n (omega arith) in
+    let more = tally_last (at ms) 0 n in
+    let here : 0 + n ≡ n = omega arith in
+    ⊎_elim
+    (λ t. let h = count_by_more_yes (λ b. b) ms n false (omega arith) t in let b : bit (at ms (0 + n)) ≡ 1 = ap (λ k. bit (at ms k)) here ∙ ap bit t in omega arith)
+    (λ f. let h = count_by_more_no (λ b. b) ms n false (omega arith) f in let b : bit (at ms (0 + n)) ≡ 0 = ap (λ k. bit (at ms k)) here ∙ ap bit f in omega arith)
+    (cases_Bool (at ms n))
 
 tally_past : (k : ℕ) (m : ℕ → Bool) (i d : ℕ) → k < i → tally (without k m) i d ≡ tally m i d
 tally_past k m i zero lt = refl

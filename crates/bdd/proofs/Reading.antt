@@ -1,12 +1,13 @@
 -- A function depends on the variables of its diagram's nodes, and on no other.
-use Rattle.std.proofs.Common.{◌≡◌, ℕ, zero, suc, ◌+◌, ◌*◌, ◌/◌, ◌<◌, ◌≤◌, Bool, true, false, cond, ltb, ◌⊎◌, List, length, sym, refl, ap, ◌∙◌, subst, inl, inr, ⊎_elim, arith}
+use Rattle.std.proofs.Common.{◌≡◌, ℕ, zero, suc, ◌+◌, ◌*◌, ◌/◌, ◌<◌, ◌≤◌, Bool, true, false, cond, ltb, List, length, sym, refl, ap, ◌∙◌, subst, ⊎_elim, arith}
 use mathlib.Core.Path.{fun_ext}
-use Rattle.std.proofs.lemmas.Bool.{cases_eq, le-ltb, both_ways}
+use Rattle.std.proofs.lemmas.Bool.{cases_eq, le-ltb}
 use Rattle.bdd.specs.declared.store.nodes.Node.{Node}
 use Rattle.bdd.specs.Diagram.{child, node_at, turned, inverted, value, eval, Good}
 use Rattle.bdd.specs.Parts.{fixed, PartOf}
 use Rattle.bdd.specs.Marking.{Marked, Marks}
-use Rattle.bdd.specs.Reading.{Ignores, Topmost, Least}
+use Rattle.bdd.specs.Reading.{Ignores, Topmost}
+use Rattle.bdd.proofs.Leasts.{NoneAbove, Least}
 use Rattle.bdd.proofs.Values.{branch_like, eval_child, turned_even}
 use Rattle.bdd.proofs.Canon.{upd, upd_at, upd_other, eval_upd, branch_at, same_edge}
 
@@ -60,44 +61,17 @@ module _ (ns : List Node) (e n : ℕ) (m : ℕ → Bool) (good : Good ns) (insid
   ignored u in-n none ρ b = ap (turned (inverted e))
       (value_marked (upd ρ u b) ρ (λ i h mk. upd_other ρ u b (node_at ns i).var (none i h mk)) (e / 2) (e / 2) in-n marks.root)
 
-  pub topmost_none : (bound r : ℕ) → e / 2 ≤ n → Least ns m n bound r → 4096 ≤ r → (u : ℕ) → bound < u → Ignores (λ ρ. eval ns ρ e) u
-  topmost_none bound r in-n l none u above = ignored u in-n (λ i h mk is.
-      let b = (good.fits i (omega arith)).bounded in
-      let le = l.least i h mk (omega arith) in
-      omega arith)
+  pub topmost_none : (bound : ℕ) → e / 2 ≤ n → NoneAbove ns m n bound → (u : ℕ) → bound < u → Ignores (λ ρ. eval ns ρ e) u
+  topmost_none bound in-n none u above = ignored u in-n (λ i h mk is. none i h mk (omega arith))
 
-  pub topmost_some : (bound r : ℕ) → e / 2 ≤ n → Least ns m n bound r → (r ≡ 4096 → ⊥) → Topmost (λ ρ. eval ns ρ e) bound r
-  topmost_some bound r in-n l some = ⊎_elim
-      (λ z. absurd (some z))
-      (λ q.
-      let k : ℕ = q.0 in
-      let kn = q.1 in
+  pub topmost_some : (bound r : ℕ) → e / 2 ≤ n → Least ns m n bound r → Topmost (λ ρ. eval ns ρ e) bound r
+  topmost_some bound r in-n l =
+      let k : ℕ = l.place in
+      let kn = l.inside in
       let in_ns : k < length ns = omega arith in
       record {
-        above = q.4;
-        bounded = omega (arith, q.3, (good.fits k in_ns).bounded);
-        depends = subst (λ v. Ignores (λ ρ. eval ns ρ e) v → ⊥) q.3 (part_depends ns (λ ρ. eval ns ρ e) k good in_ns (marks.part k kn q.2));
+        above = l.above;
+        bounded = omega (arith, l.var_is, (good.fits k in_ns).bounded);
+        depends = subst (λ v. Ignores (λ ρ. eval ns ρ e) v → ⊥) l.var_is (part_depends ns (λ ρ. eval ns ρ e) k good in_ns (marks.part k kn l.marked));
         least = λ u above below. ignored u in-n (λ i h mk is. let le = l.least i h mk (omega arith) in omega arith);
-      })
-      l.which
-
--- a turn of the loop that looks for the least
-pub least_none : (ns : List Node) (m : ℕ → Bool) (bound : ℕ) → Least ns m 0 bound 4096
-least_none ns m bound = record { least = λ k h. absurd (omega arith); which = inl refl }
-
-pub least_new : (ns : List Node) (m : ℕ → Bool) (i bound r : ℕ) → m i ≡ true → bound < (node_at ns i).var → (node_at ns i).var < r → Least ns m i bound r → Least ns m (i + 1) bound (node_at ns i).var
-least_new ns m i bound r mark above below l = record {
-  least = λ k h mk b. ⊎_elim (λ e. let q = ap (λ j. (node_at ns j).var) e in omega arith) (λ ne. let le = l.least k (omega arith) mk b in omega arith) (cases_eq k i);
-  which = inr (i, omega arith, mark, refl, above);
-}
-
-pub least_old : (ns : List Node) (m : ℕ → Bool) (i bound r : ℕ) → (m i ≡ false) ⊎ (((node_at ns i).var ≤ bound) ⊎ (r ≤ (node_at ns i).var)) → Least ns m i bound r → Least ns m (i + 1) bound r
-least_old ns m i bound r why l = record {
-  least = λ k h mk b. ⊎_elim
-      (λ e.
-      let q = ap (λ j. (node_at ns j).var) e in
-      ⊎_elim (λ f. absurd (both_ways (m k) (ap m e ∙ f) mk)) (⊎_elim (λ low. absurd (omega arith)) (λ high. omega arith)) why)
-      (λ ne. l.least k (omega arith) mk b)
-      (cases_eq k i);
-  which = ⊎_elim (λ z. inl z) (λ q. let kn = q.1 in inr (q.0, omega arith, q.2, q.3, q.4)) l.which;
-}
+      }

@@ -1,10 +1,10 @@
 -- What holds of the values of edges.
-use Rattle.std.proofs.Common.{◌≡◌, ℕ, zero, suc, ◌+◌, ◌-◌, ◌*◌, ◌/◌, ◌%◌, ◌<◌, ◌≤◌, Bool, true, false, cond, not, List, [], ◌∷◌, ◌++◌, length, get_or, take, Some, None, Option, sym, refl, ap, ◌∙◌, subst, inl, inr, ⊎_elim, arith, length-append, MatchOption}
+use Rattle.std.proofs.Common.{◌≡◌, ℕ, zero, suc, ◌+◌, ◌-◌, ◌*◌, ◌/◌, ◌%◌, ◌<◌, ◌≤◌, Bool, true, false, cond, not, List, [], ◌∷◌, ◌++◌, length, get_or, take, Some, None, Option, is_some, sym, refl, ap, ◌∙◌, subst, inl, inr, ⊎_elim, arith, length-append, MatchOption}
 use Rattle.std.proofs.lemmas.Bool.Decides.{nat_tests}
 use Rattle.std.proofs.lemmas.List.{get_or_read, get_or_append_left, get_or_push, get_or_default, get_or-take, length-take-le, same_lists}
-use Rattle.std.proofs.lemmas.Bool.{ne_eqb, cases_lt}
+use Rattle.std.proofs.lemmas.Bool.{ne_eqb, cases_lt, true≢false}
 use Rattle.bdd.specs.declared.store.nodes.Node.{Node}
-use Rattle.bdd.specs.Diagram.{child, node, node_at, flip, turned, inverted, edge, branch, value, eval, var_at, top, Fits, Good, Grown}
+use Rattle.bdd.specs.Diagram.{child, node, node_at, flip, turned, turn, inverted, edge, branch, value, eval, var_at, top, Fits, Good, Grown}
 use Rattle.bdd.specs.Steps.{Cofactor, Made, Placed, Short}
 use Rattle.bdd.specs.Index.{Lacks}
 
@@ -101,10 +101,6 @@ unfolding eval
 eval_child ns ρ e i b good is inside h =
     ap (turned (inverted e)) (ap (λ j. value j ns ρ j) is ∙ value_node ns ρ i good inside ∙ branch_child ρ (λ j. value j ns ρ j) (node_at ns i) b h)
 
--- a child, turned as its edge is
-abbrev pub turn : ℕ → ℕ → ℕ
-turn e c = cond (inverted e) (flip c) c
-
 pub eval_turn : (ns : List Node) (ρ : ℕ → Bool) (e c : ℕ) → eval ns ρ (turn e c) ≡ turned (inverted e) (eval ns ρ c)
 eval_turn ns ρ e c = elim (inverted e) as (λ b. eval ns ρ (cond b (flip c) c) ≡ turned b (eval ns ρ c)) [ true ↦ eval_flip ns ρ c | false ↦ refl ]
 
@@ -144,12 +140,6 @@ cofactor_read ns e v r n b good inside at lt read ris =
 
 pub cofactor_same : (ns : List Node) (e v : ℕ) (b : Bool) → e / 2 ≤ length ns → v ≤ top ns e → (top ns e ≡ v → ⊥) → Cofactor ns e v b e
 cofactor_same ns e v b inside le ne = record { inside = inside; later = omega arith; no_deeper = omega arith; deeper = λ h. absurd (ne h); value_is = λ ρ h. refl }
-
-pub turn_even : (e c : ℕ) → e % 2 ≡ 0 → c ≡ turn e c
-turn_even e c h = grind (arith, nat_tests)
-
-pub turn_odd : (e c : ℕ) → (e % 2 ≡ 0 → ⊥) → flip c ≡ turn e c
-turn_odd e c h = grind (arith, nat_tests)
 
 pub var_kept : (ns ms : List Node) (j : ℕ) → Grown ns ms → j ≤ length ns → var_at ms j ≡ var_at ns j
 var_kept ns ms zero g h = refl
@@ -263,6 +253,19 @@ short_straight ns v h l good f fresh =
 
 pub short_flipped : (ns : List Node) (v h l : ℕ) → Short ns v (flip h) (flip l) → Short ns v h l
 short_flipped ns v h l s = record { extra = s.extra; result = flip s.result; good = s.good; made = made_flipped ns (ns ++ s.extra ∷ []) v h l s.result s.made }
+
+-- what a `?` hands on where there is none
+pub none_is : {A : Type 0} (o : Option A) (P : Type 0) (Q : A → Type 0) → o ≡ None → P → MatchOption o P Q
+none_is o P Q is p = subst (λ x. MatchOption x P Q) (sym is) p
+
+-- what holds where `is_none` is true
+pub none_case : {A : Type 0} (o : Option A) (P : Type 0) (Q : A → Type 0) → is_some o ≡ false → MatchOption o P Q → P
+none_case None P Q is m = m
+none_case (Some x) P Q is m = absurd (true≢false is)
+
+pub none_map : {A : Type 0} (o : Option A) (P S : Type 0) (Q R : A → Type 0) → is_some o ≡ false → (P → S) → MatchOption o P Q → MatchOption o S R
+none_map None P S Q R is f m = f m
+none_map (Some x) P S Q R is f m = absurd (true≢false is)
 
 pub cases_map : {A : Type 0} (o : Option A) (P S : Type 0) (Q R : A → Type 0) → (P → S) → ((x : A) → Q x → R x) → MatchOption o P Q → MatchOption o S R
 cases_map None P S Q R f g h = f h

@@ -1,5 +1,5 @@
 -- The way down two diagrams that differ, to a code under which they do.
-use Rattle.std.proofs.Common.{◌≡◌, ℕ, zero, suc, ◌+◌, ◌-◌, ◌*◌, ◌/◌, ◌%◌, ◌^◌, ◌<◌, ◌≤◌, min, Bool, true, false, not, eqb, ◌⊎◌, List, length, sym, refl, ap, ◌∙◌, subst, inl, inr, ⊎_elim, arith}
+use Rattle.std.proofs.Common.{◌≡◌, ℕ, zero, suc, ◌+◌, ◌-◌, ◌*◌, ◌/◌, ◌%◌, ◌^◌, ◌<◌, ◌≤◌, min, Bool, true, false, not, eqb, ◌⊎◌, List, sym, refl, ap, ◌∙◌, subst, inl, inr, ⊎_elim, arith}
 use Rattle.std.proofs.lemmas.Nat.{pow_below, shr_high, mod_low, mod-pow-add, pow-add, field_of}
 use Rattle.std.proofs.lemmas.Bool.{cases_eq, cases_Bool}
 use Rattle.bdd.specs.declared.store.nodes.Node.{Node}
@@ -45,23 +45,6 @@ double k h =
     let p : 2 ^ (1 + (k - 1)) ≡ 2 ^ 1 * 2 ^ (k - 1) = pow-add 2 1 (k - 1) in
     let e : 1 + (k - 1) ≡ k = omega arith in
     sym (ap (λ (j : ℕ). 2 ^ j) e) ∙ p ∙ omega arith
-
-pub walk_start : (n : ℕ) (ns : List Node) (e f : ℕ) → OverInputs n ns e → OverInputs n ns f → e / 2 ≤ length ns → f / 2 ≤ length ns → (e ≡ f → ⊥) → Walking n ns e f e f 0
-walk_start n ns e f over_e over_f he hf ne = record {
-  next = 1;
-  some = omega arith;
-  few = omega arith;
-  e_inside = he;
-  f_inside = hf;
-  e_back = omega arith;
-  f_back = omega arith;
-  e_later = var_some n ns (e / 2) (e / 2) over_e (omega arith);
-  f_later = var_some n ns (f / 2) (f / 2) over_f (omega arith);
-  small = omega arith;
-  apart = ne;
-  e_is = λ ρ a. refl;
-  f_is = λ ρ a. refl;
-}
 
 module _ {n : ℕ} {ns : List Node} {first second e f code : ℕ} (good : Good ns) (over_e : OverInputs n ns first) (over_f : OverInputs n ns second) (w : Walking n ns first second e f code)
     (v : ℕ) (is : v ≡ min (top ns e) (top ns f)) (one : (e / 2 ≡ 0 → ⊥) ⊎ (f / 2 ≡ 0 → ⊥)) where

@@ -1,7 +1,7 @@
 -- Codes: a number whose bit k from the lowest is the value of input k, which is the variable k + 1.
-use Rattle.std.specs.Prelude.{◌≡◌, ℕ, ◌+◌, ◌-◌, ◌/◌, ◌%◌, ◌^◌, ◌<◌, ◌≤◌, Bool, List, length, ◌==◌}
+use Rattle.std.specs.Prelude.{◌≡◌, ℕ, ◌+◌, ◌-◌, ◌/◌, ◌%◌, ◌^◌, ◌<◌, ◌≤◌, Bool, List, ◌==◌}
 use Rattle.bdd.specs.declared.store.nodes.Node.{Node}
-use Rattle.bdd.specs.Diagram.{node_at, eval, top}
+use Rattle.bdd.specs.Diagram.{node_at, eval, top, Within}
 
 -- the value of a variable under a code
 abbrev pub assigned : ℕ → ℕ → Bool
@@ -20,8 +20,8 @@ pub record Walking (n : ℕ) (ns : List Node) (first second e f code : ℕ) : Ty
   pub next : ℕ
   pub some : 0 < next
   pub few : next ≤ n + 1
-  pub e_inside : e / 2 ≤ length ns
-  pub f_inside : f / 2 ≤ length ns
+  pub e_inside : Within ns e
+  pub f_inside : Within ns f
   pub e_back : e / 2 ≤ first / 2
   pub f_back : f / 2 ≤ second / 2
   pub e_later : next ≤ top ns e

@@ -2,11 +2,11 @@
 use Rattle.std.specs.Prelude.{◌≡◌, ℕ, zero, suc, ◌+◌, ◌*◌, ◌/◌, ◌<◌, ◌≤◌, Bool, true, cond, not, ◌&&◌, ◌⊎◌, List, [], ◌∷◌, length, vec_items, slice_index}
 use Rattle.bdd.specs.declared.store.nodes.Node.{Node}
 use Rattle.bdd.specs.declared.store.Table.{Table}
-use Rattle.bdd.specs.Diagram.{node_at, eval, inverted, flip, Grown}
+use Rattle.bdd.specs.Diagram.{node_at, eval, turn, Within, Grown}
 use Rattle.bdd.specs.Parts.{PartOf}
 use Rattle.bdd.specs.Size.{with_input, Ascending, Only, size_of_all}
 use Rattle.bdd.specs.Laws.{Held, Inputs}
-use Rattle.bdd.specs.Sound.{Sound, nodes_of}
+use Rattle.bdd.specs.Contents.{nodes_of, limit_of}
 use Rattle.bdd.specs.Marking.{at, Marks}
 
 -- the function of e, with that of g in the place of the variable v
@@ -28,7 +28,7 @@ NoRoom S ns limit = (vs : List ℕ) (φs : List ((ℕ → Bool) → Bool)) → A
     → ((φ : (ℕ → Bool) → Bool) → S φ → Among φ φs × Only vs φ) → limit < size_of_all vs φs
 
 pub record Denotes (ns : List Node) (e : ℕ) (φ : (ℕ → Bool) → Bool) : Type 0 where
-  pub inside : e / 2 ≤ length ns
+  pub inside : Within ns e
   pub value_is : (ρ : ℕ → Bool) → eval ns ρ e ≡ φ ρ
 
 -- a new node is a part of one of the steps
@@ -39,8 +39,7 @@ pub record PartOfStep (S : ((ℕ → Bool) → Bool) → Type 0) (ns : List Node
 
 -- the nodes that were there stay, and each new one is a part of one of the steps
 pub record Extends (S : ((ℕ → Bool) → Bool) → Type 0) (t u : Table) : Type 0 where
-  pub sound : Sound u
-  pub limit_is : u.limit ≡ t.limit
+  pub limit_is : limit_of u ≡ limit_of t
   pub grown : Grown (nodes_of t) (nodes_of u)
   pub parts : (i : ℕ) → length (nodes_of t) ≤ i → i < length (nodes_of u) → PartOfStep S (nodes_of u) i
 
@@ -77,7 +76,7 @@ image_at images zero = 0
 image_at images (suc k) = slice_index images k
 
 abbrev pub carried : List ℕ → ℕ → ℕ
-carried images e = cond (inverted e) (flip (image_at images (e / 2))) (image_at images (e / 2))
+carried images e = turn e (image_at images (e / 2))
 
 -- the nodes of the diagram before i have their images
 pub record Mapping (t u : Table) (f v g i : ℕ) : Type 0 where

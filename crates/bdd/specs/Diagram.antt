@@ -1,5 +1,5 @@
 -- What a list of nodes stands for: the function of an edge, and when the list is well made.
-use Rattle.std.specs.Prelude.{◌≡◌, ℕ, zero, suc, ◌+◌, ◌-◌, ◌*◌, ◌/◌, ◌%◌, ◌<◌, ◌≤◌, Bool, true, false, not, List, length, ◌==◌, slice_index_or}
+use Rattle.std.specs.Prelude.{◌≡◌, ℕ, zero, suc, ◌+◌, ◌-◌, ◌*◌, ◌/◌, ◌%◌, ◌<◌, ◌≤◌, Bool, true, false, cond, not, List, length, ◌==◌, slice_index_or}
 use Rattle.bdd.specs.declared.store.nodes.Node.{Node}
 
 abbrev pub node : ℕ → ℕ → ℕ → Node
@@ -50,6 +50,14 @@ var_at ns (suc i) = (node_at ns i).var
 
 abbrev pub top : List Node → ℕ → ℕ
 top ns e = var_at ns (e / 2)
+
+-- a child, turned as its edge is
+abbrev pub turn : ℕ → ℕ → ℕ
+turn e c = cond (inverted e) (flip c) c
+
+-- the edge leads to a constant or to one of the nodes
+abbrev pub Within : List Node → ℕ → Type 0
+Within ns e = e / 2 ≤ length ns
 
 -- a node at i refers to nodes before it, with later variables; its high edge is not inverted
 pub record Fits (ns : List Node) (i : ℕ) (n : Node) : Type 0 where

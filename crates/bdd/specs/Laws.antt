@@ -1,17 +1,17 @@
 -- What holds of every list of nodes that is well made.
-use Rattle.std.specs.Prelude.{◌≡◌, ℕ, ◌/◌, ◌<◌, ◌≤◌, Bool, true, false, not, ◌&&◌, ◌||◌, ◌⊎◌, List, [], ◌∷◌, length}
+use Rattle.std.specs.Prelude.{◌≡◌, ℕ, ◌<◌, ◌≤◌, Bool, true, false, not, ◌&&◌, ◌||◌, ◌⊎◌, List, [], ◌∷◌, length}
 use Rattle.bdd.specs.declared.store.nodes.Node.{Node}
-use Rattle.bdd.specs.Diagram.{eval, flip, node_at, Good, Same}
+use Rattle.bdd.specs.Diagram.{eval, flip, node_at, Good, Same, Within}
 use Rattle.bdd.specs.Parts.{PartOf}
 use Rattle.bdd.specs.Size.{In, Ascending, Only, size_of, size_of_all}
 
 -- two edges with one function are one edge
 abbrev pub OneEdge : Type 0
-OneEdge = (ns : List Node) (e f : ℕ) → Good ns → e / 2 ≤ length ns → f / 2 ≤ length ns → Same ns e ns f → e ≡ f
+OneEdge = (ns : List Node) (e f : ℕ) → Good ns → Within ns e → Within ns f → Same ns e ns f → e ≡ f
 
 -- edges with inverse functions are each other's inverse
 abbrev pub InverseEdges : Type 0
-InverseEdges = (ns : List Node) (e f : ℕ) → Good ns → e / 2 ≤ length ns → f / 2 ≤ length ns → ((ρ : ℕ → Bool) → eval ns ρ e ≡ not (eval ns ρ f)) → e ≡ flip f
+InverseEdges = (ns : List Node) (e f : ℕ) → Good ns → Within ns e → Within ns f → ((ρ : ℕ → Bool) → eval ns ρ e ≡ not (eval ns ρ f)) → e ≡ flip f
 
 -- the node is a part of one of the functions, which look only at the inputs vs
 abbrev pub Held : List Node → List ℕ → ℕ → List ((ℕ → Bool) → Bool) → Type 0

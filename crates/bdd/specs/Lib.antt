@@ -3,7 +3,8 @@ pub mod Diagram
 pub mod Parts
 pub mod Steps
 pub mod Index
-pub mod Sound
+pub mod Caching
+pub mod Contents
 pub mod Size
 pub mod Laws
 pub mod Marking

@@ -1,17 +1,8 @@
 -- Marks on the nodes that an edge leads to.
-use Rattle.std.specs.Prelude.{◌≡◌, ℕ, zero, suc, ◌+◌, ◌/◌, ◌<◌, ◌≤◌, Bool, true, false, List, slice_index_or, slice_set}
+use Rattle.std.specs.Prelude.{◌≡◌, ℕ, zero, suc, ◌/◌, ◌<◌, ◌≤◌, Bool, true, false, List, slice_index_or, slice_set}
 use Rattle.bdd.specs.declared.store.nodes.Node.{Node}
 use Rattle.bdd.specs.Diagram.{node_at, eval}
 use Rattle.bdd.specs.Parts.{PartOf}
-
-abbrev pub bit : Bool → ℕ
-bit true = 1
-bit false = 0
-
--- how many of d numbers from i on pass
-abbrev pub tally : (ℕ → Bool) → ℕ → ℕ → ℕ
-tally m i zero = 0
-tally m i (suc d) = bit (m i) + tally m (suc i) d
 
 -- the place j is the constant, or is marked
 abbrev pub Marked : (ℕ → Bool) → ℕ → Type 0

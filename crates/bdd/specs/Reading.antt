@@ -1,7 +1,7 @@
 -- Which variables a function depends on, and the first of them above a bound.
-use Rattle.std.specs.Prelude.{◌≡◌, ℕ, ◌<◌, ◌≤◌, Bool, true, ◌⊎◌, List}
+use Rattle.std.specs.Prelude.{◌≡◌, ℕ, ◌<◌, min, nat_lt, Bool, ◌&&◌, Option, List, map, filter}
+use Rattle.std.specs.List.{reduce, zip}
 use Rattle.bdd.specs.declared.store.nodes.Node.{Node}
-use Rattle.bdd.specs.Diagram.{node_at}
 use Rattle.bdd.specs.Size.{with_input}
 
 -- the value of the variable v makes no difference
@@ -15,7 +15,6 @@ pub record Topmost (φ : (ℕ → Bool) → Bool) (bound v : ℕ) : Type 0 where
   pub depends : Ignores φ v → ⊥
   pub least : (u : ℕ) → bound < u → u < v → Ignores φ u
 
--- of the first n nodes, r is the least variable above the bound of those marked, or 4096 where there is none
-pub record Least (ns : List Node) (m : ℕ → Bool) (n bound r : ℕ) : Type 0 where
-  pub least : (k : ℕ) → k < n → m k ≡ true → bound < (node_at ns k).var → r ≤ (node_at ns k).var
-  pub which : (r ≡ 4096) ⊎ ((k : ℕ) × (k < n) × (m k ≡ true) × ((node_at ns k).var ≡ r) × (bound < r))
+-- the least variable above the bound of the marked among the nodes
+abbrev pub least_of : List Node → List Bool → ℕ → Option ℕ
+least_of ns ms bound = reduce min (map (λ p. p.0.var) (filter (λ p. p.1 && nat_lt bound p.0.var) (zip ns ms)))

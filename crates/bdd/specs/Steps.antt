@@ -1,18 +1,18 @@
 -- What the steps of a conjunction give: a cofactor, a node, the conjunction itself, or the node that is wanting.
 use Rattle.std.specs.Prelude.{◌≡◌, ℕ, ◌+◌, ◌*◌, ◌/◌, ◌<◌, ◌≤◌, min, Bool, true, false, ◌&&◌, ◌⊎◌, List, [], ◌∷◌, ◌++◌, length}
 use Rattle.bdd.specs.declared.store.nodes.Node.{Node}
-use Rattle.bdd.specs.Diagram.{node_at, eval, top, Good}
+use Rattle.bdd.specs.Diagram.{node_at, eval, top, Good, Within}
 use Rattle.bdd.specs.Parts.{News, conj}
 
 pub record Cofactor (ns : List Node) (e v : ℕ) (b : Bool) (r : ℕ) : Type 0 where
-  pub inside : r / 2 ≤ length ns
+  pub inside : Within ns r
   pub later : v < top ns r
   pub no_deeper : r / 2 ≤ e / 2
   pub deeper : top ns e ≡ v → r / 2 < e / 2
   pub value_is : (ρ : ℕ → Bool) → ρ v ≡ b → eval ns ρ r ≡ eval ns ρ e
 
 pub record Both (ns ms : List Node) (f g r : ℕ) : Type 0 where
-  pub inside : r / 2 ≤ length ms
+  pub inside : Within ms r
   pub first : (v : ℕ) → v ≤ top ns f → v ≤ top ns g → v ≤ top ms r
   pub value_is : (ρ : ℕ → Bool) → eval ms ρ r ≡ (eval ns ρ f && eval ns ρ g)
 
@@ -25,7 +25,7 @@ pub record Placed (ns ms : List Node) (n : Node) (e : ℕ) : Type 0 where
   pub news : (ms ≡ ns) ⊎ ((ms ≡ ns ++ n ∷ []) × (place ≡ length ns))
 
 pub record Made (ns ms : List Node) (v h l r : ℕ) : Type 0 where
-  pub inside : r / 2 ≤ length ms
+  pub inside : Within ms r
   pub first : v ≤ top ms r
   pub high_is : (ρ : ℕ → Bool) → ρ v ≡ true → eval ms ρ r ≡ eval ns ρ h
   pub low_is : (ρ : ℕ → Bool) → ρ v ≡ false → eval ms ρ r ≡ eval ns ρ l

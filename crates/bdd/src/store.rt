@@ -1,12 +1,10 @@
-//! The table of nodes, with its scratch: an index to find a node by, a cache of conjunctions, marks, and images.
-//!
-//! The fields are private, so a table is sound from its making on.
-ghost use Rattle.std.specs.Prelude.{◌≡◌, ◌<◌, ◌≤◌, [], length, IfOk};
-ghost use Rattle.bdd.specs.Sound.{Sound, nodes_of};
+//! The table: a set of nodes, with a cache of conjunctions, and marks and images as scratch.
+ghost use Rattle.std.specs.Prelude.{◌≡◌, ◌<◌, ◌≤◌, [], length, vec_len, IfOk};
+ghost use Rattle.bdd.specs.Caching.{AllRight};
 
-use crate::edges::Edge;
-use cache::Entry;
-use nodes::Node;
+use crate::edges::{Edge, FALSE};
+use cache::Cache;
+use node_set::NodeSet;
 use std::alloc::{AllocError, Global};
 
 mod build;
@@ -15,57 +13,46 @@ mod compose;
 mod conjunction;
 mod count;
 mod cut;
-mod index;
 mod marking;
+mod node_set;
 pub mod nodes;
 mod separate;
 mod topmost;
 mod walk;
 
-/// A bounded table of nodes.
+/// A bounded table of nodes. What its cache knows is right.
 ///
-/// `heads` has, for each bucket, the place of its last node, and `next` for each node the place of the one before it in
-/// its bucket; 0 ends a bucket. An entry of the cache counts only under the present stamp. `marks` and `images` have a
-/// place for each node, and hold nothing between calls.
+/// `marks` and `images` have a place for each node, and hold nothing between calls.
+// They are two, since `size` and `topmost` mark nodes and have no images.
 #[derive(Drop)]
 pub struct Table {
-    nodes: Vec<Node>,
-    next: Vec<u32>,
-    heads: Vec<u32>,
-    cache: Vec<Entry>,
-    stamp: u32,
+    set: NodeSet,
+    cache: Cache,
     marks: Vec<bool>,
     images: Vec<Edge>,
-    limit: usize,
+    ghost cached: { AllRight set.nodes.items cache.entries.items cache.stamp },
+    ghost marks_room: { set.limit ≤ vec_len marks },
+    ghost images_room: { set.limit ≤ vec_len images },
 }
 
 impl Table {
+    ghost use Rattle.bdd.specs.Contents.{nodes_of, limit_of};
+
     /// An empty table with room for `limit` nodes, 1 to 16,384.
     pub fn new(heap: Global, limit: usize) -> Result<Table, AllocError>
         requires some { 0 < limit }
         requires small { limit ≤ 16384 }
-        ensures { IfOk result (λ t. Sound t × (nodes_of t ≡ []) × (t.limit ≡ limit)) }
+        ensures { IfOk result (λ t. (nodes_of t ≡ []) × (limit_of t ≡ limit)) }
     {
-        let nodes = Vec::with_capacity(heap, limit)?;
-        let next = Vec::with_capacity(heap, limit)?;
-        let heads = vec![in heap; 0u32; limit]?;
-        let cache = vec![in heap; Entry {
-            f: 0,
-            g: 0,
-            result: 0,
-            stamp: 0
-        }; limit]?;
+        let set = NodeSet::new(heap, limit)?;
+        let cache = Cache::new(heap, limit)?;
         let marks = vec![in heap; false; limit]?;
-        let images = vec![in heap; 0u32; limit]?;
+        let images = vec![in heap; FALSE; limit]?;
         Ok(Table {
-            nodes,
-            next,
-            heads,
+            set,
             cache,
-            stamp: 1,
             marks,
             images,
-            limit,
         })
     }
 
@@ -73,6 +60,6 @@ impl Table {
     pub fn len(&self) -> usize
         ensures { result ≡ length (nodes_of self.now) }
     {
-        self.nodes.len()
+        self.set.len()
     }
 }

@@ -3,8 +3,9 @@
 //! It prints node counts, and with an argument the time that each run took, in microseconds.
 #![tactic(auto)]
 
-ghost use Rattle.std.specs.Prelude.{◌+◌, ◌/◌, ◌<◌, ◌≤◌, length, MatchOption};
-ghost use Rattle.bdd.specs.Sound.{Sound, nodes_of};
+ghost use Rattle.std.specs.Prelude.{◌+◌, ◌<◌, ◌≤◌, IfSome};
+ghost use Rattle.bdd.specs.Diagram.{Within};
+ghost use Rattle.bdd.specs.Contents.{nodes_of};
 
 use bdd::{Edge, FALSE, Table, inverse};
 use std::time::Instant;
@@ -12,38 +13,25 @@ use std::{env, io};
 
 // Joins x(i) x(i+n) to the sum.
 fn join(t: &mut Table, sum: Edge, i: u16, n: u16) -> Option<Edge>
-    requires sound { Sound t.old }
-    requires within { sum / 2 ≤ length (nodes_of t.old) }
+    requires within { Within (nodes_of t.old) sum }
     requires small { i + n < 4096 }
-    ensures { MatchOption result (Sound t.new) (λ e. Sound t.new × (e / 2 ≤ length (nodes_of t.new))) }
+    ensures { IfSome result (λ e. Within (nodes_of t.new) e) }
 {
-    let Some(a) = t.variable(i) else {
-        return None;
-    };
-    let Some(b) = t.variable(i + n) else {
-        return None;
-    };
-    let Some(both) = t.and(a, b) else {
-        return None;
-    };
-    let Some(neither) = t.and(inverse(sum), inverse(both)) else {
-        return None;
-    };
+    let a = t.variable(i)?;
+    let b = t.variable(i + n)?;
+    let both = t.and(a, b)?;
+    let neither = t.and(inverse(sum), inverse(both))?;
     Some(inverse(neither))
 }
 
 // The sum of n products; none where the table is too small.
 fn pairs(t: &mut Table, n: u16) -> Option<Edge>
-    requires sound { Sound t.old }
     requires small { n < 2048 }
-    ensures { MatchOption result (Sound t.new) (λ e. Sound t.new × (e / 2 ≤ length (nodes_of t.new))) }
+    ensures { IfSome result (λ e. Within (nodes_of t.new) e) }
 {
     let mut sum = FALSE;
-    for i in 1..n + 1 {
-        let Some(next) = join(t, sum, i, n) else {
-            return None;
-        };
-        sum = next;
+    for i in 1..=n {
+        sum = join(t, sum, i, n)?;
     }
     Some(sum)
 }

@@ -1,87 +1,89 @@
 //! The cache of conjunctions that were made before. It is lossy: a new entry takes the place of another.
-//!
-//! An entry counts only under the table's present stamp, so that all are forgotten at once by a new stamp.
-ghost use Rattle.std.specs.Prelude.{◌≡◌, ℕ, ◌<◌, IfSome, vec_len};
-ghost use Rattle.bdd.specs.Steps.{Both};
-ghost use Rattle.bdd.specs.Sound.{Sound, Kept, Right, Forgotten, entry, entry_at, nodes_of};
+ghost use Rattle.std.specs.Prelude.{◌≡◌, ◌<◌, vec_len, IfOk, IfSome};
+ghost use Rattle.bdd.specs.Caching.{Stamped, Known, KnowsNone, KnownAfter};
 
-use super::Table;
-use crate::edges::Edge;
+use crate::edges::{Edge, FALSE};
+use std::alloc::{AllocError, Global};
 
-/// That `result` is the conjunction of `f` and `g`, known under this stamp.
+/// Two diagrams, in the order of the call.
+#[derive(Clone, Copy, PartialEq, Eq, Debug, Drop)]
+pub struct Pair {
+    pub(super) f: Edge,
+    pub(super) g: Edge,
+}
+
+/// That `result` is the conjunction of the pair, known under this stamp.
 #[derive(Clone, Copy, Drop)]
 pub struct Entry {
-    pub(crate) f: Edge,
-    pub(crate) g: Edge,
-    pub(crate) result: Edge,
-    pub(crate) stamp: u32,
+    pair: Pair,
+    result: Edge,
+    stamp: u32,
 }
 
-// The place of a conjunction in a cache of m places.
-fn spot(m: usize, f: Edge, g: Edge) -> usize
-    requires { 0 < m }
-    ensures { result < m }
-{
-    (f as usize * 12582917 + g as usize * 4256249) % m
+// An entry under no stamp.
+const EMPTY: Entry = Entry {
+    pair: Pair { f: FALSE, g: FALSE },
+    result: FALSE,
+    stamp: 0,
+};
+
+/// Entries, of which those under the present stamp count: so all are forgotten at once by a new stamp.
+#[derive(Drop)]
+pub struct Cache {
+    entries: Vec<Entry>,
+    stamp: u32,
+    ghost some: { 0 < vec_len entries },
+    ghost stamped: { Stamped entries.items stamp },
 }
 
-// Empties a cache.
-fn wipe(cache: &mut Vec<Entry>)
-    ensures len { vec_len cache.new ≡ vec_len cache.old }
-    ensures none { (k : ℕ) → k < vec_len cache.new → (entry_at cache.new.items k).stamp ≡ 0 }
-{
-    let mut k = 0;
-    while k < cache.len() {
-        cache[k] = Entry {
-            f: 0,
-            g: 0,
-            result: 0,
-            stamp: 0,
-        };
-        k += 1;
-    }
-}
-
-impl Table {
-    // A conjunction from before, if the cache has it still.
-    pub(super) fn recall(&self, f: Edge, g: Edge) -> Option<Edge>
-        requires { Sound self.now }
-        ensures { IfSome result (λ e. Both (nodes_of self.now) (nodes_of self.now) f g e) }
+impl Cache {
+    // A cache of `spots` entries, none of which counts.
+    pub(super) fn new(heap: Global, spots: usize) -> Result<Cache, AllocError>
+        requires { 0 < spots }
+        ensures { IfOk result (λ c. KnowsNone c.entries.items c.stamp) }
     {
-        let seen = self.cache[spot(self.cache.len(), f, g)];
-        if seen.stamp == self.stamp && seen.f == f && seen.g == g {
+        let entries = vec![in heap; EMPTY; spots]?;
+        Ok(Cache { entries, stamp: 1 })
+    }
+
+    // Where the entry of the pair lies.
+    fn spot(&self, pair: Pair) -> usize
+        ensures { result < vec_len self.now.entries }
+    {
+        (pair.f as usize * 12582917 + pair.g as usize * 4256249) % self.entries.len()
+    }
+
+    // The conjunction of the pair, if it is known still.
+    pub(super) fn recall(&self, pair: Pair) -> Option<Edge>
+        ensures { IfSome result (λ r. Known self.now.entries.items self.now.stamp pair.f pair.g r) }
+    {
+        let seen = self.entries[self.spot(pair)];
+        if seen.stamp == self.stamp && seen.pair == pair {
             Some(seen.result)
         } else {
             None
         }
     }
 
-    // Keeps a conjunction in the cache, in the place of another.
-    pub(super) fn remember(&mut self, f: Edge, g: Edge, answer: Edge)
-        requires sound { Sound self.old }
-        requires right { Right (nodes_of self.old) (entry f g answer self.old.stamp) }
-        ensures kept { Kept self.old self.new }
-        ensures nodes { self.new.nodes ≡ self.old.nodes }
+    // Keeps a conjunction, in the place of another.
+    pub(super) fn remember(&mut self, pair: Pair, answer: Edge)
+        ensures stamp { self.new.stamp ≡ self.old.stamp }
+        ensures known { KnownAfter self.old.entries.items self.new.entries.items self.old.stamp pair.f pair.g answer }
     {
-        let k = spot(self.cache.len(), f, g);
-        let stamp = self.stamp;
-        self.cache[k] = Entry {
-            f,
-            g,
+        let k = self.spot(pair);
+        self.entries[k] = Entry {
+            pair,
             result: answer,
-            stamp,
+            stamp: self.stamp,
         };
     }
 
-    // Forgets every conjunction, by a new stamp; when the stamps run out, the cache is wiped and they start again.
+    // Forgets every conjunction, by a new stamp; when the stamps run out, the entries are emptied and they start again.
     pub(super) fn forget(&mut self)
-        requires { Sound self.old }
-        ensures kept { Kept self.old self.new }
-        ensures nodes { self.new.nodes ≡ self.old.nodes }
-        ensures forgotten { Forgotten self.new }
+        ensures { KnowsNone self.new.entries.items self.new.stamp }
     {
         if self.stamp == u32::MAX {
-            wipe(&mut self.cache);
+            self.entries.fill(EMPTY);
             self.stamp = 1;
         } else {
             self.stamp += 1;

@@ -1,19 +1,19 @@
 //! Marking the nodes of a diagram, from its own node down, in scratch of the table.
-ghost use Rattle.std.specs.Prelude.{◌≡◌, ℕ, ◌/◌, ◌<◌, ◌≤◌, false, length};
-ghost use Rattle.bdd.specs.Diagram.{node_at, Good};
-ghost use Rattle.bdd.specs.Marking.{at, with_mark, tally, Marks};
+//!
+//! These are functions of the nodes and the marks, and not methods of the table: so it shows that only marks change.
+ghost use Rattle.std.specs.Prelude.{◌≡◌, ℕ, ◌/◌, ◌<◌, ◌≤◌, false, length, take, count_by};
+ghost use Rattle.bdd.specs.Diagram.{node_at, Within, Good};
+ghost use Rattle.bdd.specs.Marking.{at, with_mark, Marks};
 
 use super::nodes::Node;
-use crate::edges::Edge;
+use crate::edges::{Edge, place_of};
 
 // Takes the first n marks away.
 fn clear(marks: &mut [bool], n: usize)
     requires { n ≤ length marks.old }
     ensures { (k : ℕ) → k < n → at marks.new k ≡ false }
 {
-    for k in 0..n {
-        marks[k] = false;
-    }
+    marks[..n].fill(false);
 }
 
 // Marks the node of an edge.
@@ -21,9 +21,9 @@ fn mark(marks: &mut [bool], e: Edge)
     requires { e / 2 ≤ length marks.old }
     ensures { marks.new ≡ with_mark marks.old (e / 2) }
 {
-    let i = (e / 2) as usize;
-    if i > 0 {
-        marks[i - 1] = true;
+    let place = place_of(e);
+    if place > 0 {
+        marks[place - 1] = true;
     }
 }
 
@@ -42,16 +42,14 @@ fn mark_children(nodes: &[Node], marks: &mut [bool], i: usize)
 // Marks the nodes of the edge's diagram, and no other node before the edge's own.
 pub(super) fn mark_diagram(nodes: &[Node], marks: &mut [bool], e: Edge)
     requires good { Good nodes.now }
-    requires within { e / 2 ≤ length nodes.now }
+    requires within { Within nodes.now e }
     requires room { e / 2 ≤ length marks.old }
     ensures { Marks nodes.now e (e / 2) 0 (at marks.new) }
 {
-    let n = (e / 2) as usize;
+    let n = place_of(e);
     clear(marks, n);
     mark(marks, e);
-    let mut i = n;
-    while i > 0 {
-        i -= 1;
+    for i in (0..n).rev() {
         if marks[i] {
             mark_children(nodes, marks, i);
         }
@@ -61,15 +59,7 @@ pub(super) fn mark_diagram(nodes: &[Node], marks: &mut [bool], e: Edge)
 // How many of the first n marks are set.
 pub(super) fn count_marks(marks: &[bool], n: usize) -> usize
     requires { n ≤ length marks.now }
-    ensures { result ≡ tally (at marks.now) 0 n }
+    ensures { result ≡ count_by (λ marked. marked) (take n marks.now) }
 {
-    let mut count = 0;
-    let mut i = n;
-    while i > 0 {
-        i -= 1;
-        if marks[i] {
-            count += 1;
-        }
-    }
-    count
+    marks[..n].iter().filter(|&&marked| marked).count()
 }

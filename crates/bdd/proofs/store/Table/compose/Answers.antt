@@ -1,37 +1,20 @@
--- The image of the diagram's edge; a refusal is cut back to the mark.
-use Rattle.std.proofs.Common.{◌≡◌, ℕ, List, length, vec_items, sym, ap, ◌∙◌, subst, arith, rules}
+-- A refusal is cut back to the mark.
+use Rattle.std.proofs.Common.{List, vec_items, sym, ◌∙◌}
 use Rattle.bdd.specs.declared.store.nodes.Node.{Node}
-use Rattle.bdd.specs.declared.store.Table.{Table}
-use Rattle.bdd.specs.Sound.{nodes_of}
-use Rattle.bdd.specs.Composing.{Denotes, composed, carried}
-use Rattle.bdd.proofs.Values.{grown_take}
+use Rattle.bdd.specs.Contents.{nodes_of, limit_of}
+use Rattle.bdd.specs.Composing.{NoRoom, Denotes, ComposeStep, carried, composed}
+use Rattle.bdd.proofs.Values.{grown_take, none_case}
 use Rattle.bdd.proofs.store.Table.compose.Goals as goal
 
-pub cut-requires : goal.cut-requires
-cut-requires c =
-    let x = c.map_diagram.ensures.extends in
-    let long : c.len-mark.result ≡ length (nodes_of c.args.self.now) = search rules in
-    record { sound = x.sound; within = omega (arith, x.grown.longer) }
-
-pub returns-then-map_diagram : goal.returns-then-map_diagram
-returns-then-map_diagram c =
-    let u : Table = c.map_diagram.new.self in
-    let x = c.map_diagram.ensures.extends in
-    let f : ℕ = c.args.f in
-    let is : c.carry.result ≡ carried (vec_items u.images) f = c.carry.ensures ∙ ap (λ xs. carried xs f) c.deref.ensures.value in (
-      record { sound = x.sound; limit_is = x.limit_is; grown = x.grown; parts = x.parts },
-      subst (λ r. Denotes (nodes_of u) r (composed (nodes_of c.args.self.now) c.args.v c.args.g f)) (sym is) c.if-map_diagram.ensures.cases,
-    )
-
-pub returns : goal.returns
-returns c =
+pub returns-then-is_none : goal.returns-then-is_none
+returns-then-is_none c =
     let ns : List Node = nodes_of c.args.self.now in
-    let x = c.map_diagram.ensures.extends in
-    let mark : length ns ≡ c.len-mark.result = search rules in (
+    let u = c.map_diagram.new.self in
+    let x = c.map_diagram.ensures.extends in (
       record {
-        sound = c.cut.ensures.sound;
-        nodes = c.cut.ensures.nodes ∙ sym (grown_take ns (nodes_of c.map_diagram.new.self) c.len-mark.result mark x.grown);
+        nodes = c.cut.ensures.nodes ∙ sym (grown_take ns (nodes_of u) c.len-mark.result (sym c.len-mark.ensures) x.grown);
         limit_is = c.cut.ensures.limit ∙ x.limit_is;
       },
-      c.if-map_diagram.ensures.cases,
+      none_case c.map_diagram.result (NoRoom (ComposeStep ns c.args.f c.args.v c.args.g) ns (limit_of c.args.self.now))
+          (λ _. Denotes (nodes_of u) (carried (vec_items u.images) c.args.f) (composed ns c.args.v c.args.g c.args.f)) c.if-is_none.ensures c.map_diagram.ensures.cases,
     )

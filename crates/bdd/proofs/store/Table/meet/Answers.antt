@@ -1,46 +1,31 @@
 -- What conjoin promises, in terms of the function.
-use Rattle.std.proofs.Common.{◌≡◌, ℕ, List, length, vec_len, refl, arith, rules}
+use Rattle.std.proofs.Common.{ℕ, ◌≤◌, Bool, List, length, refl, arith}
 use Rattle.bdd.specs.declared.store.nodes.Node.{Node}
-use Rattle.bdd.specs.declared.store.Table.{Table}
 use Rattle.bdd.specs.Parts.{conj}
-use Rattle.bdd.specs.Steps.{Parts}
-use Rattle.bdd.specs.Sound.{Kept, nodes_of}
-use Rattle.bdd.specs.Composing.{Is, Still, Extends}
+use Rattle.bdd.specs.Steps.{Both, Lacking}
+use Rattle.bdd.specs.Laws.{TooMany}
+use Rattle.bdd.specs.Contents.{nodes_of, limit_of}
+use Rattle.bdd.specs.Composing.{Denotes}
+use Rattle.bdd.proofs.Values.{cases_map}
 use Rattle.bdd.proofs.Counting.{refusal}
 use Rattle.bdd.proofs.store.Table.meet.Goals as goal
 
-still_of : (t u : Table) → Kept t u → Still t u
-still_of t u k = record { marks_is = k.marks_is; images_is = k.images_is }
-
-extends_of : (t u : Table) (f g : ℕ) → Kept t u → Parts (nodes_of t) (nodes_of u) f g → Extends (λ φ. Is φ (conj (nodes_of t) f g)) t u
-extends_of t u f g k p = record {
-  sound = k.sound;
-  limit_is = k.limit_is;
-  grown = k.grown;
-  parts = λ i a b. record { step = conj (nodes_of t) f g; is_step = λ ρ. refl; part = p.part i a b };
-}
-
-pub returns-in_default : goal.returns-in_default
-returns-in_default c =
-    let ns : List Node = nodes_of c.args.self.now in
-    let ms : List Node = nodes_of c.conjoin.new.self in
+pub returns-clause-extends : goal.returns-clause-extends
+returns-clause-extends c =
+    let t = c.args.self.now in
     let k = c.conjoin.ensures.kept in
-    let out = c.in_default.ensures.cases in
-    let lack = out.1 in
-    let full = out.0 in
-    let long : vec_len c.conjoin.new.self.nodes ≡ length ms = search rules in
-    record {
-      still = still_of c.args.self.now c.conjoin.new.self k;
-      extends = extends_of c.args.self.now c.conjoin.new.self c.args.f c.args.g k c.conjoin.ensures.parts;
-      cases = refusal ns ms (conj ns c.args.f c.args.g) c.args.self.now.limit lack.extra c.requires.sound.good k.grown (omega (arith, k.limit_is)) lack.good lack.parts.part;
-    }
+    let p = c.conjoin.ensures.parts in
+    record { limit_is = k.limit_is; grown = k.grown; parts = λ i a b. record { step = conj (nodes_of t) c.args.f c.args.g; is_step = λ ρ. refl; part = p.part i a b } }
 
-pub returns : goal.returns
-returns c =
+pub returns-clause-cases : goal.returns-clause-cases
+returns-clause-cases c =
+    let t = c.args.self.now in
+    let u = c.conjoin.new.self in
+    let ns : List Node = nodes_of t in
+    let ms : List Node = nodes_of u in
+    let φ : (ℕ → Bool) → Bool = conj ns c.args.f c.args.g in
     let k = c.conjoin.ensures.kept in
-    let both = c.in-Some.ensures.cases in
-    record {
-      still = still_of c.args.self.now c.conjoin.new.self k;
-      extends = extends_of c.args.self.now c.conjoin.new.self c.args.f c.args.g k c.conjoin.ensures.parts;
-      cases = record { inside = both.inside; value_is = both.value_is };
-    }
+    cases_map c.conjoin.result ((limit_of u ≤ length ms) × Lacking ns ms c.args.f c.args.g) (TooMany ns (limit_of t) φ) (Both ns ms c.args.f c.args.g) (λ e. Denotes ms e φ)
+    (λ out. let lack = out.1 in refusal ns ms φ (limit_of t) lack.extra t.set.good k.grown (let full = out.0 in omega (arith, k.limit_is)) lack.good lack.parts.part)
+    (λ e both. record { inside = both.inside; value_is = both.value_is })
+    c.conjoin.ensures.cases

@@ -1,25 +1,13 @@
 -- The node that was added is the last.
-use Rattle.std.proofs.Common.{◌≡◌, ℕ, ◌+◌, List, [], ◌∷◌, ◌++◌, length, vec_items, sym, refl, ap, ◌∙◌, inr, arith, length-append, rules}
-use Rattle.std.proofs.lemmas.List.{get_or_push}
-use Rattle.bdd.specs.declared.store.nodes.Node.{Node}
-use Rattle.bdd.specs.Diagram.{node, node_at}
+use Rattle.std.proofs.Common.{vec_items, sym, subst}
+use Rattle.bdd.specs.Diagram.{Grown}
+use Rattle.bdd.specs.Contents.{nodes_of}
+use Rattle.bdd.proofs.Values.{grown_push}
+use Rattle.bdd.proofs.Chains.{all_right_kept}
 use Rattle.bdd.proofs.store.Table.place.Goals as goal
 
-pub returns : goal.returns
-returns c =
-    let ns : List Node = vec_items c.args.self.now.nodes in
-    let n : Node = node c.args.var c.args.high c.args.low in
-    let items : vec_items c.link.new.self.nodes ≡ ns ++ n ∷ [] = c.link.ensures.items in
-    let i : ℕ = c.len-i.result in
-    let long : i ≡ length ns = search rules in
-    let longer : length (vec_items c.link.new.self.nodes) ≡ length ns + 1 = ap length items ∙ simp length-append in
-    record {
-      kept = c.link.ensures.kept;
-      cases = record {
-        place = i;
-        edge_is = refl;
-        inside = omega arith;
-        node_is = ap (λ xs. node_at xs i) items ∙ get_or_push ns n (node 0 0 0) i (sym long);
-        news = inr (items, long);
-      };
-    }
+pub invariant_of-self-clause-cached : goal.invariant_of-self-clause-cached
+invariant_of-self-clause-cached c =
+    let t = c.args.self.now in
+    let grown : Grown (nodes_of t) (vec_items c.link.new.self.nodes) = subst (Grown (nodes_of t)) (sym c.link.ensures.items) (grown_push (nodes_of t) c.args.n.now) in
+    all_right_kept (nodes_of t) (vec_items c.link.new.self.nodes) (vec_items t.cache.entries) t.cache.stamp t.set.good grown t.cached
