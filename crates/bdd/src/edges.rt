@@ -7,6 +7,7 @@ ghost use Rattle.bdd.specs.declared.store.nodes.Node.{Node};
 ghost use Rattle.bdd.specs.Diagram.{eval, flip, turn};
 
 /// The name of a diagram in a table.
+// A number and no struct: the definitions name edges by their numbers, and a struct would only add a field to each.
 pub type Edge = u32;
 
 /// The diagram of the constant false.

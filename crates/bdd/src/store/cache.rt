@@ -58,11 +58,7 @@ impl Cache {
         ensures { IfSome result (λ r. Known self.now.entries.items self.now.stamp pair.f pair.g r) }
     {
         let seen = self.entries[self.spot(pair)];
-        if seen.stamp == self.stamp && seen.pair == pair {
-            Some(seen.result)
-        } else {
-            None
-        }
+        (seen.stamp == self.stamp && seen.pair == pair).then_some(seen.result)
     }
 
     // Keeps a conjunction, in the place of another.

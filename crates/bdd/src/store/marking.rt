@@ -8,14 +8,6 @@ ghost use Rattle.bdd.specs.Marking.{at, with_mark, Marks};
 use super::nodes::Node;
 use crate::edges::{Edge, place_of};
 
-// Takes the first n marks away.
-fn clear(marks: &mut [bool], n: usize)
-    requires { n ≤ length marks.old }
-    ensures { (k : ℕ) → k < n → at marks.new k ≡ false }
-{
-    marks[..n].fill(false);
-}
-
 // Marks the node of an edge.
 fn mark(marks: &mut [bool], e: Edge)
     requires { e / 2 ≤ length marks.old }
@@ -47,7 +39,7 @@ pub(super) fn mark_diagram(nodes: &[Node], marks: &mut [bool], e: Edge)
     ensures { Marks nodes.now e (e / 2) 0 (at marks.new) }
 {
     let n = place_of(e);
-    clear(marks, n);
+    marks[..n].fill(false);
     mark(marks, e);
     for i in (0..n).rev() {
         if marks[i] {
