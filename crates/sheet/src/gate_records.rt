@@ -16,7 +16,7 @@ pub struct GateRecords<'a> {
 
 impl<'a> GateRecords<'a> {
     /// So many gates, from the first of these bytes on.
-    pub fn new(rest: &'a [u8], left: u16) -> GateRecords<'a>
+    pub(crate) fn new(rest: &'a [u8], left: u16) -> GateRecords<'a>
         ensures { (result.rest.now ≡ rest.now) × (result.left ≡ left) }
     {
         GateRecords { rest, left }

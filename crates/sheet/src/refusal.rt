@@ -62,6 +62,15 @@ pub struct Refused<W> {
     pub refusal: Refusal,
 }
 
+impl<W> fmt::Display for Refused<W> {
+    fn fmt<F: fmt::Write>(&self, f: &mut fmt::Formatter<F>) -> fmt::Result {
+        let refusal = self.refusal;
+        write!(f, "{refusal}")
+    }
+}
+
+impl<W: fmt::Debug + Drop> Error for Refused<W> {}
+
 /// Refuses a call of a writer, and hands the writer back.
 pub fn refuse<T, W>(writer: W, refusal: Refusal) -> Result<T, Refused<W>>
     ensures { result ≡ Err (record { writer = writer; refusal = refusal }) }
