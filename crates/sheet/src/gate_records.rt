@@ -6,6 +6,7 @@ ghost use Rattle.sheet.specs.Ahead.{gates_ahead};
 use crate::gate::Gate;
 use crate::record::record;
 
+// Beside `OutputRecords`, and not one generic walk: a trait that ties each record to its value and to its bytes would be longer than this `next`.
 /// The gates that are still to come: the bytes from the next one on, and how many there are.
 #[derive(Clone, Copy, PartialEq, Eq, Debug)]
 pub struct GateRecords<'a> {
@@ -15,7 +16,7 @@ pub struct GateRecords<'a> {
 
 impl<'a> GateRecords<'a> {
     /// So many gates, from the first of these bytes on.
-    pub fn new(rest: &'a [u8], left: u16) -> GateRecords<'a>
+    pub(crate) fn new(rest: &'a [u8], left: u16) -> GateRecords<'a>
         ensures { (result.rest.now ≡ rest.now) × (result.left ≡ left) }
     {
         GateRecords { rest, left }

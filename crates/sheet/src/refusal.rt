@@ -19,6 +19,7 @@ impl Refusal {
     pub fn number(self) -> u8
         ensures { result ≡ refusal_number self }
     {
+        // Not by `as`: a variant that holds a flaw has that flaw's number.
         match self {
             Refusal::Wrong(flaw) => flaw.number(),
             Refusal::Full => 26,
@@ -61,6 +62,15 @@ pub struct Refused<W> {
     pub refusal: Refusal,
 }
 
+impl<W> fmt::Display for Refused<W> {
+    fn fmt<F: fmt::Write>(&self, f: &mut fmt::Formatter<F>) -> fmt::Result {
+        let refusal = self.refusal;
+        write!(f, "{refusal}")
+    }
+}
+
+impl<W: fmt::Debug + Drop> Error for Refused<W> {}
+
 /// Refuses a call of a writer, and hands the writer back.
 pub fn refuse<T, W>(writer: W, refusal: Refusal) -> Result<T, Refused<W>>
     ensures { result ≡ Err (record { writer = writer; refusal = refusal }) }
@@ -71,7 +81,69 @@ pub fn refuse<T, W>(writer: W, refusal: Refusal) -> Result<T, Refused<W>>
 impl<W: Drop> From<Refused<W>> for Refusal {
     ghost from_gives = { λ refused refusal. refusal ≡ refused.refusal };
 
-    fn from(refused: Refused<W>) -> Refusal {
-        refused.refusal
+    fn from(back: Refused<W>) -> Refusal {
+        back.refusal
+    }
+}
+
+#[cfg(test)]
+mod tests {
+    use super::*;
+    use crate::fault::{Section, SheetFault};
+    use crate::gate::Gate;
+    use crate::writer::{Gates, Opened};
+    use std::test::Fail;
+
+    #[test]
+    fn prints_in_words(rt: HostRuntime) -> Result<(), Fail> {
+        let fault = SheetFault {
+            flaw: Flaw::Signal,
+            section: Section::Gates,
+            place: 6,
+        };
+        let text = format!(in rt.alloc(); "{fault}")?;
+        assert_eq!(rt;
+            text.as_str(),
+            "7 section 2 place 6: no such signal, or not below its gate"
+        );
+        let wrong = Refusal::Wrong(Flaw::Kind);
+        let text = format!(in rt.alloc(); "{wrong}")?;
+        assert_eq!(rt; text.as_str(), "3: gate kind not 1 to 9");
+        let full = Refusal::Full;
+        let text = format!(in rt.alloc(); "{full}")?;
+        assert_eq!(rt; text.as_str(), "26: place too short");
+        Ok(())
+    }
+
+    fn opened(place: &mut [u8]) -> Result<Gates, Refusal> {
+        Ok(Opened.inputs(place, 2)?)
+    }
+
+    #[test]
+    fn hands_the_writer_back(rt: HostRuntime) -> Result<(), Fail> {
+        let mut place = [0u8; 64];
+        let writer = opened(&mut place).ok().ok_or("no writer")?;
+        let wrong = Gate {
+            kind: 10,
+            a: 2,
+            b: 3,
+            c: 0,
+        };
+        let Err(Refused { writer, refusal }) = writer.gate(&mut place, wrong) else {
+            return Err(Fail::from("not refused"));
+        };
+        assert_eq!(rt; refusal, Refusal::Wrong(Flaw::Kind));
+        let closed = writer
+            .output(&mut place, 2, b"q")
+            .ok()
+            .ok_or("no output")?
+            .close(&place)
+            .ok()
+            .ok_or("not closed")?;
+        assert_eq!(rt;
+            closed.bytes(&place),
+            [1, 0, 2, 0, 0, 0, 1, 0, 2, 1, 113].as_slice()
+        );
+        Ok(())
     }
 }
