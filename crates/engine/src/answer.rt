@@ -1,7 +1,7 @@
 //! What an engine answers.
 
 /// Whether two nets agree under every input code.
-// (d) Not `Option` of a verdict: the product names three answers, and in one enum each has its name.
+// Not `Option` of a verdict: the product names three answers, and in one enum each has its name.
 #[derive(Clone, Copy, PartialEq, Eq, Debug)]
 pub enum Answer {
     /// They agree under every code.

@@ -38,7 +38,7 @@ pub fn chained<P: Engine, Q: Engine>(
     ensures asked { Asked (chain (P.pile first.now) (Q.pile second.now)) graph.old query workspace.old result graph.new workspace.new }
     ensures given { Chained (P.gives first.now) (Q.gives second.now) (asked_of graph.old query workspace.old) result }
 {
-    // (c) Not `or_else` over a closure: of one that is let go uncalled nothing says that the graph it borrowed stays.
+    // Not `or_else` over a closure: of one that is let go uncalled nothing says that the graph it borrowed stays.
     match first.ask(graph, query, workspace) {
         Answer::Undecided => second.ask(graph, query, workspace),
         decided => decided,

@@ -37,7 +37,7 @@ pub fn laddered<P: Engine>(
     ensures asked { Asked (ladder (P.pile below.now)) graph.old query workspace.old result graph.new workspace.new }
     ensures given { Climbed (P.gives below.now) (asked_of graph.old query workspace.old) result }
 {
-    // (c) Not `or_else` over a closure, as in `chained`.
+    // Not `or_else` over a closure, as in `chained`.
     match below.ask(graph, query.lowered(), workspace) {
         Answer::Undecided => below.ask(graph, query, workspace),
         decided => decided,

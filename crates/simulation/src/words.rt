@@ -41,7 +41,7 @@ pub fn simulate(graph: &Graph, codes: Codes<'_>, words: &mut [u64])
     ensures simulated { Simulated graph.now codes.entry.list.now words.new }
     ensures rest { RestKept graph.now words.old words.new }
 {
-    // (d) By index: the word of a vertex is made from all those before it, so no iterator can lend it alone.
+    // By index: the word of a vertex is made from all those before it, so no iterator can lend it alone.
     for v in 0..graph.used() {
         words[v] = vertex_word(graph, codes, words, v);
     }
