@@ -72,18 +72,15 @@ fn two_forms(graph: &mut Graph) -> Option<(Net, Net)> {
 /// Two forms of XOR, and above each the same chain of NANDs, as long as the table allows. Answers the two forms.
 fn two_chains(graph: &mut Graph) -> Option<(Net, Net)> {
     let (first, second) = two_forms(graph)?;
-    let mut left = first;
-    let mut right = second;
+    let mut tops = [first, second];
     for step in 0..MOST_VERTICES {
         let input = Net::of(1 + step % FULL_INPUTS);
-        let Some(next) = gate(graph, Kind::Nand, left, input, Net::FALSE) else {
-            break;
-        };
-        left = next;
-        let Some(next) = gate(graph, Kind::Nand, right, input, Net::FALSE) else {
-            break;
-        };
-        right = next;
+        for top in tops.iter_mut() {
+            let Some(next) = gate(graph, Kind::Nand, *top, input, Net::FALSE) else {
+                return Some((first, second));
+            };
+            *top = next;
+        }
     }
     Some((first, second))
 }
@@ -96,7 +93,15 @@ fn standing(graph: &Graph) -> usize {
 }
 
 /// The worked merge: the two forms of XOR, whether they were merged, and the survivor of net 16.
-fn worked_merge(graph: &mut Graph, words: &mut [u64]) -> Option<(Net, Net, bool, Net)> {
+#[derive(Clone, Copy)]
+struct WorkedMerge {
+    xor: Net,
+    mux: Net,
+    merged: bool,
+    survivor: Net,
+}
+
+fn worked_merge(graph: &mut Graph, words: &mut [u64]) -> Option<WorkedMerge> {
     let (a, b) = (Net::of(1), Net::of(2));
     gate(graph, Kind::And, a, b, Net::FALSE)?;
     gate(graph, Kind::Or, a, b, Net::FALSE)?;
@@ -106,16 +111,25 @@ fn worked_merge(graph: &mut Graph, words: &mut [u64]) -> Option<(Net, Net, bool,
     if net.vertex() >= graph.used() {
         return None;
     }
-    Some((xor, mux, merged, graph.survivor(net)))
+    let survivor = graph.survivor(net);
+    Some(WorkedMerge {
+        xor,
+        mux,
+        merged,
+        survivor,
+    })
 }
 
 /// With two inputs, the two forms of XOR are nets 10 and 17; once merged, net 16 has survivor 11.
 fn worked(rt: HostRuntime, words: &mut [u64]) -> io::Result<()> {
     let mut graph = Graph::new(rt.alloc(), 2, MOST_VERTICES)?;
-    let Some((xor, mux, merged, survivor)) = worked_merge(&mut graph, words) else {
+    let Some(worked) = worked_merge(&mut graph, words) else {
         return println!(rt; "the worked run made too few vertices");
     };
-    println!(rt; "nets {xor} and {mux}: merged {merged}, net 16 has survivor {survivor}")
+    println!(rt;
+        "nets {} and {}: merged {}, net 16 has survivor {}",
+        worked.xor, worked.mux, worked.merged, worked.survivor
+    )
 }
 
 /// A full table, and the cascade that one merge sets off in it.

@@ -38,7 +38,8 @@ pub fn chained<P: Engine, Q: Engine>(
     ensures asked { Asked (chain (P.pile first.now) (Q.pile second.now)) graph.old query workspace.old result graph.new workspace.new }
     ensures given { Chained (P.gives first.now) (Q.gives second.now) (asked_of graph.old query workspace.old) result }
 {
-    // Not `or_else` over a closure: of one that is let go uncalled nothing says that the graph it borrowed stays.
+    // A `match`, and no closure for the second ask: of a closure that is let go uncalled, no clause of std says that the graph
+    // and the workspace that it borrowed are as they were.
     match first.ask(graph, query, workspace) {
         Answer::Undecided => second.ask(graph, query, workspace),
         decided => decided,

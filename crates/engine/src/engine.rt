@@ -17,6 +17,7 @@ pub trait Engine {
     ghost gives: { Self → Giving };
 
     /// Asks whether the two nets of the query agree.
+    // Graph and workspace are two loans of the caller, made apart: a struct of both would be made anew at each ask.
     fn ask(&self, graph: &mut Graph, query: Query, workspace: &mut Workspace) -> Answer
         requires { Askable graph.old query workspace.old }
         ensures asked { Asked (pile self.now) graph.old query workspace.old result graph.new workspace.new }

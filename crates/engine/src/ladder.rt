@@ -37,7 +37,7 @@ pub fn laddered<P: Engine>(
     ensures asked { Asked (ladder (P.pile below.now)) graph.old query workspace.old result graph.new workspace.new }
     ensures given { Climbed (P.gives below.now) (asked_of graph.old query workspace.old) result }
 {
-    // Not `or_else` over a closure, as in `chained`.
+    // A `match` for the same reason as in `chained`. It is no call of `chained`, whose two parts are asked one query.
     match below.ask(graph, query.lowered(), workspace) {
         Answer::Undecided => below.ask(graph, query, workspace),
         decided => decided,

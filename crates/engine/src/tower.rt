@@ -10,6 +10,7 @@ use crate::workspace::Workspace;
 use aig::Graph;
 
 /// A pile of engines of one type, chosen at run time: one engine, a chain of two piles, or a ladder over one.
+// An enum, and no boxed `dyn Engine`: a function that makes a `dyn` value and hands it out leaves what is proved of it to its body.
 #[derive(PartialEq, Eq, Debug, Drop)]
 pub enum Tower<E> {
     Single(E),

@@ -1,4 +1,4 @@
-//! A gate kind as a type, and the two tests on a kind's number that tell which operands it reads.
+//! A gate kind as a type: its number, which operands it reads, and its Boolean function.
 ghost use Rattle.std.specs.Prelude.{◌≡◌};
 ghost use Rattle.gates.specs.Kinds.{number_of, reads_b, reads_c, function_of};
 ghost use Rattle.gates.specs.Numbers.{Names};
@@ -57,13 +57,27 @@ impl From<Kind> for u8 {
 
 impl fmt::Display for UnknownKind {
     fn fmt<W: fmt::Write>(&self, f: &mut fmt::Formatter<W>) -> fmt::Result {
-        write!(f, "{} is no gate kind, which are 1 to 9", self.0)
+        write!(f, "no gate kind has the number {}", self.0)
     }
 }
 
 impl Error for UnknownKind {}
 
 impl Kind {
+    /// Whether the kind reads operand b: all but NOT and BUF do.
+    pub fn reads_b(self) -> bool
+        ensures { result ≡ reads_b (number_of self) }
+    {
+        !matches!(self, Kind::Not | Kind::Buf)
+    }
+
+    /// Whether the kind reads operand c: MUX alone does.
+    pub fn reads_c(self) -> bool
+        ensures { result ≡ reads_c (number_of self) }
+    {
+        self == Kind::Mux
+    }
+
     /// The Boolean function of a kind: the value of its gate where the operands have these values.
     pub fn value(self, a: bool, b: bool, c: bool) -> bool
         ensures { result ≡ function_of self a b c }
@@ -82,14 +96,14 @@ impl Kind {
     }
 }
 
-// The two tests take a number and not a `Kind`, as records and calls do that refuse a wrong kind by its number: a narrower
-// type would ask more of their callers.
+// The same of a number, for gate records: a record keeps its kind as a number, since a call that is given one refuses a
+// number that is no kind. The two differ in their answer alone, and one function for both would have to be told which.
 
 /// Whether the kind with this number reads operand b: all but NOT and BUF do.
 pub fn reads_b(number: u8) -> bool
     ensures { result ≡ reads_b number }
 {
-    !(7 <= number && number <= 8)
+    !(7..=8).contains(&number)
 }
 
 /// Whether the kind with this number reads operand c: MUX alone does.

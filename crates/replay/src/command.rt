@@ -1,16 +1,20 @@
 //! The calls that a script can make, and how a line is read.
+use aig::Net;
 use gates::Kind;
 use std::error::Error;
 use std::fmt;
 use std::str::{FromStr, SplitWhitespace};
 
-/// A call as a line of the script has it. The kind and the nets are numbers as they are written, right or wrong: the session
-/// refuses those that are wrong.
+/// The most words of workspace that a line can lend, and how many it lends where it does not say.
+pub const MOST_WORDS: usize = 4096;
+
+/// A call as a line of the script has it.
 #[derive(Clone, Copy, Debug)]
 pub enum Command {
     Open { inputs: usize, places: usize },
-    Gate { kind: u8, a: u16, b: u16, c: u16 },
-    Value { net: u16, code: u64, words: usize },
+    // The kind is the number that is written: the session refuses one that names no kind.
+    Gate { kind: u8, a: Net, b: Net, c: Net },
+    Value { net: Net, code: u64, words: usize },
 }
 
 /// Why a line cannot be read.
@@ -64,23 +68,34 @@ fn open(words: &mut SplitWhitespace<'_>) -> Result<Command, Unreadable> {
 }
 
 fn gate(words: &mut SplitWhitespace<'_>) -> Result<Command, Unreadable> {
-    let kind = kind(words.next())?;
+    let kind = kind_number(words.next())?;
     let a = words.next().ok_or(Unreadable::Missing("operand a"))?;
-    let a = parsed(a, "a net")?;
-    let b = parsed(words.next().unwrap_or("0"), "an operand")?;
-    let c = parsed(words.next().unwrap_or("0"), "an operand")?;
+    let a = Net(parsed(a, "a net")?);
+    let b = operand(words.next())?;
+    let c = operand(words.next())?;
     Ok(Command::Gate { kind, a, b, c })
+}
+
+/// An operand that is net 0 where it is left out.
+fn operand(word: Option<&str>) -> Result<Net, Unreadable> {
+    match word {
+        Some(word) => Ok(Net(parsed(word, "an operand")?)),
+        None => Ok(Net::FALSE),
+    }
 }
 
 fn value(words: &mut SplitWhitespace<'_>) -> Result<Command, Unreadable> {
     let net = words.next().ok_or(Unreadable::Missing("the net"))?;
-    let net = parsed(net, "a net")?;
+    let net = Net(parsed(net, "a net")?);
     let code = number(words.next(), "the code")?;
-    let words = number(words.next().or(Some("4096")), "the number of words")?;
+    let lent = match words.next() {
+        Some(word) => number(Some(word), "the number of words")? as usize,
+        None => MOST_WORDS,
+    };
     Ok(Command::Value {
         net,
         code,
-        words: words as usize,
+        words: lent,
     })
 }
 
@@ -115,7 +130,7 @@ const KINDS: [(&str, Kind); 9] = [
 ];
 
 /// The number of a gate kind that is given by number or by name.
-fn kind(word: Option<&str>) -> Result<u8, Unreadable> {
+fn kind_number(word: Option<&str>) -> Result<u8, Unreadable> {
     let word = word.ok_or(Unreadable::Missing("the kind"))?;
     match KINDS.iter().find(|(name, _)| *name == word) {
         Some((_, kind)) => Ok(u8::from(*kind)),

@@ -1,19 +1,26 @@
 //! The session that a script runs on, and what is printed of each line.
-use crate::command::Command;
+use crate::command::{Command, MOST_WORDS};
 use aig::Net;
 use comparer::{Refusal, Session};
 use std::alloc::{AllocError, Global};
-use std::io;
+use std::{fmt, io};
 
-/// The most words of workspace that a line can lend.
-const WORDS: usize = 4096;
-
-/// What a call that is not refused answers.
+/// What a call that is not refused gives.
 #[derive(Clone, Copy, Debug)]
-enum Answer {
+enum Outcome {
     Opened,
     Net(Net),
     Bit(bool),
+}
+
+impl fmt::Display for Outcome {
+    fn fmt<W: fmt::Write>(&self, f: &mut fmt::Formatter<W>) -> fmt::Result {
+        match *self {
+            Outcome::Opened => write!(f, "opened"),
+            Outcome::Net(net) => write!(f, "net {net}"),
+            Outcome::Bit(bit) => write!(f, "{}", u8::from(bit)),
+        }
+    }
 }
 
 /// A session under replay, with its workspace.
@@ -26,7 +33,7 @@ pub struct Replay {
 impl Replay {
     /// A replay on a session that is not opened.
     pub fn new(heap: Global) -> Result<Replay, AllocError> {
-        let words = vec![in heap; 0u64; WORDS]?;
+        let words = vec![in heap; 0u64; MOST_WORDS]?;
         Ok(Replay {
             session: Session::new(heap),
             words,
@@ -62,31 +69,26 @@ impl Replay {
         }
     }
 
-    /// Makes a call and prints its answer.
+    /// Makes a call and prints what it gives.
     fn answer(&mut self, rt: HostRuntime, command: Command) -> io::Result<()> {
         match self.make(rt.alloc(), command) {
-            Ok(Answer::Opened) => print!(rt; "opened"),
-            Ok(Answer::Net(net)) => print!(rt; "net {net}"),
-            Ok(Answer::Bit(bit)) => print!(rt; "{}", u8::from(bit)),
+            Ok(outcome) => print!(rt; "{outcome}"),
             Err(why) => print!(rt; "refused {why}"),
         }
     }
 
     /// Makes a call.
-    fn make(&mut self, heap: Global, command: Command) -> Result<Answer, Refusal> {
+    fn make(&mut self, heap: Global, command: Command) -> Result<Outcome, Refusal> {
         match command {
             Command::Open { inputs, places } => {
                 self.session.open(heap, inputs, places)?;
-                Ok(Answer::Opened)
+                Ok(Outcome::Opened)
             }
-            Command::Gate { kind, a, b, c } => {
-                let net = self.session.gate(kind, Net(a), Net(b), Net(c))?;
-                Ok(Answer::Net(net))
-            }
+            Command::Gate { kind, a, b, c } => Ok(Outcome::Net(self.session.gate(kind, a, b, c)?)),
             Command::Value { net, code, words } => {
                 let lent = words.min(self.words.len());
-                let bit = self.session.value(Net(net), code, &mut self.words[..lent])?;
-                Ok(Answer::Bit(bit))
+                let bit = self.session.value(net, code, &mut self.words[..lent])?;
+                Ok(Outcome::Bit(bit))
             }
         }
     }

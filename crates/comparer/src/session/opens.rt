@@ -23,10 +23,10 @@ impl Session {
     pub fn open(&mut self, heap: Global, inputs: usize, places: usize) -> Result<(), Refusal>
         ensures { Opened self.old inputs places result self.new }
     {
-        if inputs < 1 || inputs > 64 {
+        if !(1..=64).contains(&inputs) {
             return Err(Refusal::InputCount);
         }
-        if places < inputs + 1 || places > 4096 {
+        if !(inputs + 1..=4096).contains(&places) {
             return Err(Refusal::TableLength);
         }
         self.graph = Graph::new(heap, inputs, places)?;

@@ -12,9 +12,7 @@ impl Session {
     pub fn value(&self, net: Net, code: u64, words: &mut [u64]) -> Result<bool, Refusal>
         ensures { Valued self.now net code words.old result words.new }
     {
-        if net.vertex() >= self.graph.used() {
-            return Err(Refusal::NetNotInUse);
-        }
+        self.check_in_use(net)?;
         self.check_code(code)?;
         if words.len() < self.graph.used() {
             return Err(Refusal::Workspace);
