@@ -16,6 +16,7 @@ impl Net {
     pub const TRUE: Net = Net(1);
 
     /// The net of a vertex, straight.
+    // A conversion that asks something of its caller, so no `From`.
     pub fn of(vertex: usize) -> Net
         requires { vertex < 2 ^ 15 }
         ensures { result.0 ≡ 2 * vertex }

@@ -11,7 +11,8 @@ use crate::pair::Pair;
 use crate::vertex::Vertex;
 
 impl Graph {
-    /// The net that is the AND of `x` and `y`: folded, found or fresh, by the first line that fits.
+    /// The net that is the AND of `x` and `y`: what the pair of their survivors folds to, else the standing vertex that has
+    /// this pair, else a fresh vertex.
     pub fn and(&mut self, x: Net, y: Net) -> Net
         requires first { InUse self.old x }
         requires second { InUse self.old y }
