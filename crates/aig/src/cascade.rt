@@ -4,7 +4,6 @@
 ghost use Rattle.aig.specs.Cascade.{Relinked, Ready, Merged, Rehashed, Dirty};
 
 use crate::net::Net;
-use crate::pair::Pair;
 use crate::table::Table;
 use crate::vertex::Vertex;
 
@@ -49,7 +48,7 @@ pub fn rehash(table: &mut [Vertex], inputs: usize, w: usize)
         inputs,
         vertices: table,
     };
-    let pair = Pair::new(before.survivor(vertex.left), before.survivor(vertex.right));
+    let pair = before.pair(vertex.left, vertex.right);
     match before.lookup(pair) {
         Some(net) if net.vertex() < w => merge(table, inputs, net, w),
         // A later vertex has the pair.

@@ -1,7 +1,7 @@
 //! Tables as they are read: survivors, which vertex has a pair, and the AND of a pair without a new vertex.
 ghost use Rattle.std.specs.Prelude.{◌≡◌, ◌/◌, ◌^◌, ◌<◌, ◌≤◌, length, MatchOption};
 ghost use Rattle.aig.specs.Table.{survivor_of};
-ghost use Rattle.aig.specs.Pairs.{Absent, Present, Known, Unknown};
+ghost use Rattle.aig.specs.Pairs.{Ordered, Absent, Present, Known, Unknown};
 
 use crate::net::Net;
 use crate::pair::Pair;
@@ -23,6 +23,15 @@ impl Table<'_> {
         ensures { result.0 ≡ survivor_of self.entry.vertices.now net.0 }
     {
         self.vertices[net.vertex()].link.carried(net)
+    }
+
+    /// The survivors of two nets as a pair.
+    pub fn pair(self, x: Net, y: Net) -> Pair
+        requires first { x.0 / 2 < length self.vertices.now }
+        requires second { y.0 / 2 < length self.vertices.now }
+        ensures { Ordered (survivor_of self.entry.vertices.now x.0) (survivor_of self.entry.vertices.now y.0) result.low.0 result.high.0 }
+    {
+        Pair::new(self.survivor(x), self.survivor(y))
     }
 
     /// The net of the standing vertex after the inputs that has the pair.

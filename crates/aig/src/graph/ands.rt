@@ -20,8 +20,9 @@ impl Graph {
         ensures made { Anded (inputs_of self.old) (vertices self.old) x.0 y.0 result.0 (vertices self.new) }
         ensures same { SameBounds self.old self.new }
     {
-        let pair = Pair::new(self.survivor(x), self.survivor(y));
-        match self.as_table().lookup(pair) {
+        let table = self.as_table();
+        let pair = table.pair(x, y);
+        match table.lookup(pair) {
             Some(net) => net,
             None => self.grow(pair),
         }
