@@ -5,7 +5,7 @@ ghost use Rattle.aig.specs.Nets.{carried, inverse};
 use std::fmt;
 
 /// A net: `2v` is the value of vertex `v`, and `2v + 1` is its inverse.
-#[derive(Clone, Copy, PartialEq, Eq, PartialOrd, Ord, Hash, Debug)]
+#[derive(Clone, Copy, PartialEq, Eq, PartialOrd, Ord, Debug)]
 pub struct Net(pub u16);
 
 impl Net {
