@@ -1,3 +1,4 @@
+-- What is left to show of `simulate`: one more word keeps the invariant of its loop.
 use Rattle.std.proofs.Common.{ℕ, ◌<◌, length, get_or, ◌∙◌, arith, get_or-set_other}
 use Rattle.aig.specs.Graphs.{inputs_of, vertices}
 use Rattle.aig.specs.Values.{bit}
