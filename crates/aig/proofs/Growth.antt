@@ -4,12 +4,12 @@ use Rattle.std.proofs.lemmas.Bool.{cases_eq}
 use Rattle.std.proofs.lemmas.List.{length_push, get_or_push, get_or_append_left}
 use Rattle.aig.specs.Table.{vertex, none, left_of, right_of, link_of, survivor_of, Stands}
 use Rattle.aig.specs.Invariant.{Proper, StandingGate, MergedAway, Twins, ReadsEarlier, Whole}
-use Rattle.aig.specs.Pairs.{at, Known, folds, found, Unknown}
+use Rattle.aig.specs.Pairs.{Ordered, at, Known, folds, found, Unknown}
 use Rattle.aig.specs.Nets.{flip, net_value}
 use Rattle.aig.specs.Algebras.{booleans}
 use Rattle.aig.specs.Values.{bit, value_by, vertex_value, value}
 use Rattle.aig.specs.Ands.{Anded}
-use Rattle.aig.proofs.Orders.{Ordered, of_both}
+use Rattle.aig.proofs.Orders.{of_both}
 use Rattle.aig.specs.declared.vertex.Vertex.{Vertex}
 use Rattle.aig.proofs.Nets.{value_twice}
 use Rattle.aig.proofs.Merging.{link_low}

@@ -3,6 +3,7 @@ use Rattle.std.proofs.Common.{◌≡◌, ℕ, suc, ◌+◌, ◌-◌, ◌/◌, �
 use native.Mathlib.Nat.{zero-div}
 use Rattle.std.proofs.lemmas.Nat.{shl-shr}
 use Rattle.std.proofs.lemmas.Bool.{cases_eq, cases_lt, both_ways}
+use Rattle.aig.specs.Pairs.{Ordered}
 use Rattle.aig.specs.declared.vertex.Vertex.{Vertex}
 use Rattle.aig.specs.Nets.{carried, inverse, flip, net_value}
 use Rattle.aig.specs.Table.{link_of, survivor_of, Stands}
@@ -11,7 +12,7 @@ use Rattle.aig.specs.Algebras.{booleans}
 use Rattle.aig.specs.Invariant.{Whole, ReadsEarlier}
 use Rattle.aig.specs.Merges.{Mergeable, AfterMerge, Joinable, Joined, later}
 use Rattle.aig.proofs.Nets.{bit_cases, half_carried, value_carried, flip_twice}
-use Rattle.aig.proofs.Orders.{Ordered, sorted, either, of_both}
+use Rattle.aig.proofs.Orders.{sorted, either, of_both}
 use Rattle.aig.proofs.Merging.{carried_carried, carried_own}
 use Rattle.aig.proofs.Rehashing.{survivor_stands, survivor_low, survivor_value}
 use Rattle.aig.proofs.Valued.{by_zero, by_input, value_obeys}

@@ -5,9 +5,8 @@ use Rattle.std.proofs.lemmas.Bool.Decides.{nat_tests}
 use Rattle.aig.specs.declared.vertex.Vertex.{Vertex}
 use Rattle.aig.specs.Table.{left_of, right_of, survivor_of, vertex}
 use Rattle.aig.specs.Invariant.{Proper, StandingGate, NoTwins, Whole}
-use Rattle.aig.specs.Pairs.{Folds, zero_first, one_first, same, opposed, Absent, at, Known, folds, found, Unknown}
+use Rattle.aig.specs.Pairs.{Ordered, Folds, zero_first, one_first, same, opposed, Absent, at, Known, folds, found, Unknown}
 use Rattle.aig.specs.Ands.{Made, has_pair, found as found_below, found_or_fresh, first_line, and_of}
-use Rattle.aig.proofs.Orders.{Ordered}
 
 -- ---- the search for a pair
 

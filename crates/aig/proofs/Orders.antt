@@ -1,15 +1,7 @@
 -- Two nets, the smaller first.
-use Rattle.std.proofs.Common.{◌≡◌, ℕ, ◌≤◌, min, max, ◌⊎◌, sym, subst, inl, inr, arith}
+use Rattle.std.proofs.Common.{◌≡◌, ℕ, ◌≤◌, ◌⊎◌, sym, subst, inl, inr, arith}
 use Rattle.std.proofs.lemmas.Bool.{cases_lt}
-
--- `a` and `b` are `x` and `y`, the smaller first
-pub record Ordered (x y a b : ℕ) : Type 0 where
-  pub low : a ≡ min x y
-  pub high : b ≡ max x y
-
--- a pair that was made of two results
-pub ordered_at : {x y p q a b : ℕ} → x ≡ p → y ≡ q → a ≡ min x y → b ≡ max x y → Ordered p q a b
-ordered_at e f l h = record { low = omega arith; high = omega arith }
+use Rattle.aig.specs.Pairs.{Ordered}
 
 module _ {x y a b : ℕ} (o : Ordered x y a b) where
   pub sorted : a ≤ b

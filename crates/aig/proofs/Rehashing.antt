@@ -5,9 +5,9 @@ use Rattle.aig.specs.Table.{vertex, none, left_of, right_of, link_of, survivor_o
 use Rattle.aig.specs.Nets.{carried, flip}
 use Rattle.aig.specs.Cascade.{Composed, Shape, Stale, Clean, UniqueBut, AllProper, Ready, Merged, Rehashed, Dirty}
 use Rattle.aig.specs.Invariant.{Proper}
-use Rattle.aig.specs.Pairs.{Folds, zero_first, one_first, same, opposed, at, Known, folds, found}
+use Rattle.aig.specs.Pairs.{Ordered, Folds, zero_first, one_first, same, opposed, at, Known, folds, found}
 use Rattle.aig.specs.Algebras.{Algebra, Of, Carrier, Respects, net_at}
-use Rattle.aig.proofs.Orders.{Ordered, either, of_both}
+use Rattle.aig.proofs.Orders.{either, of_both}
 use Rattle.aig.specs.declared.vertex.Vertex.{Vertex}
 use Rattle.aig.proofs.Nets.{half_carried, value_carried, value_twice}
 use Rattle.aig.proofs.Counts.{standing_le}

@@ -21,7 +21,8 @@ used g = length (vertices g)
 abbrev pub InUse : Graph → Net → Type 0
 InUse g x = x.0 / 2 < used g
 
--- a graph keeps its inputs and its places
+-- a graph keeps its inputs and its places: a relation of the graph before a call and the graph after it, so no property
+-- that the type of one graph could have
 pub record SameBounds (g h : Graph) : Type 0 where
   pub inputs : inputs_of h ≡ inputs_of g
   pub places : places_of h ≡ places_of g

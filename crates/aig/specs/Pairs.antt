@@ -1,9 +1,14 @@
 -- Pairs of nets with the smaller first, line by line: what a pair folds to, and which vertex has it.
-use Rattle.std.specs.Prelude.{◌≡◌, ℕ, ◌*◌, List, ◌≢◌}
+use Rattle.std.specs.Prelude.{◌≡◌, ℕ, ◌*◌, min, max, List, ◌≢◌}
 use Rattle.aig.specs.declared.vertex.Vertex.{Vertex}
 use Rattle.aig.specs.Nets.{inverse}
 use Rattle.aig.specs.Table.{left_of, right_of}
 use Rattle.aig.specs.Invariant.{Proper, StandingGate}
+
+-- `a` and `b` are `x` and `y`, the smaller first
+pub record Ordered (x y a b : ℕ) : Type 0 where
+  pub low : a ≡ min x y
+  pub high : b ≡ max x y
 
 -- what a pair folds to
 pub data Folds (a b : ℕ) : ℕ → Type 0 where

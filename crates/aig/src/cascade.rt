@@ -1,9 +1,9 @@
-//! Merging: a merge relinks all that pointed at the merged vertex and rehashes its readers; a rehash that meets a fold or
-//! a match merges again. The number of standing vertices falls at each merge, so this ends.
+//! Merging: a merge relinks all that pointed at the merged vertex and rehashes its readers. A rehash takes the survivors of
+//! a reader's two nets; where their AND is known already, by a fold or as another standing vertex, it merges again. The
+//! number of standing vertices falls at each merge, so this ends.
 ghost use Rattle.aig.specs.Cascade.{Relinked, Ready, Merged, Rehashed, Dirty};
 
 use crate::net::Net;
-use crate::pair::Pair;
 use crate::table::Table;
 use crate::vertex::Vertex;
 
@@ -36,7 +36,8 @@ pub fn merge(table: &mut [Vertex], inputs: usize, keep: Net, gone: usize)
     }
 }
 
-/// Gives the vertex `w` its operands' survivors, or merges it where they fold or are another's pair.
+/// Gives the vertex `w` the survivors of its operands as its pair, or merges `w` where their AND is a net of an earlier
+/// vertex. Where a later vertex has the pair, `w` is given it too, and the later one is merged into `w`.
 #[cycle(merge_rehash)]
 pub fn rehash(table: &mut [Vertex], inputs: usize, w: usize)
     requires { Dirty inputs table.old w }
@@ -47,9 +48,10 @@ pub fn rehash(table: &mut [Vertex], inputs: usize, w: usize)
         inputs,
         vertices: table,
     };
-    let pair = Pair::new(before.survivor(vertex.left), before.survivor(vertex.right));
+    let pair = before.pair(vertex.left, vertex.right);
     match before.lookup(pair) {
         Some(net) if net.vertex() < w => merge(table, inputs, net, w),
+        // A later vertex has the pair.
         Some(net) => {
             table[w] = vertex.with(pair);
             merge(table, inputs, Net::of(w), net.vertex());

@@ -5,7 +5,7 @@ ghost use Rattle.aig.specs.Nets.{carried, inverse};
 use std::fmt;
 
 /// A net: `2v` is the value of vertex `v`, and `2v + 1` is its inverse.
-#[derive(Clone, Copy, PartialEq, Eq, PartialOrd, Ord, Hash, Debug)]
+#[derive(Clone, Copy, PartialEq, Eq, PartialOrd, Ord, Debug)]
 pub struct Net(pub u16);
 
 impl Net {
@@ -16,6 +16,7 @@ impl Net {
     pub const TRUE: Net = Net(1);
 
     /// The net of a vertex, straight.
+    // A conversion that asks something of its caller, so no `From`.
     pub fn of(vertex: usize) -> Net
         requires { vertex < 2 ^ 15 }
         ensures { result.0 ≡ 2 * vertex }

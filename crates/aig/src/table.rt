@@ -1,7 +1,7 @@
-//! Tables as they are read: survivors, which vertex has a pair, and the lines of the AND.
+//! Tables as they are read: survivors, which vertex has a pair, and the AND of a pair without a new vertex.
 ghost use Rattle.std.specs.Prelude.{◌≡◌, ◌/◌, ◌^◌, ◌<◌, ◌≤◌, length, MatchOption};
 ghost use Rattle.aig.specs.Table.{survivor_of};
-ghost use Rattle.aig.specs.Pairs.{Absent, Present, Known, Unknown};
+ghost use Rattle.aig.specs.Pairs.{Ordered, Absent, Present, Known, Unknown};
 
 use crate::net::Net;
 use crate::pair::Pair;
@@ -25,6 +25,15 @@ impl Table<'_> {
         self.vertices[net.vertex()].link.carried(net)
     }
 
+    /// The survivors of two nets as a pair.
+    pub fn pair(self, x: Net, y: Net) -> Pair
+        requires first { x.0 / 2 < length self.vertices.now }
+        requires second { y.0 / 2 < length self.vertices.now }
+        ensures { Ordered (survivor_of self.entry.vertices.now x.0) (survivor_of self.entry.vertices.now y.0) result.low.0 result.high.0 }
+    {
+        Pair::new(self.survivor(x), self.survivor(y))
+    }
+
     /// The net of the standing vertex after the inputs that has the pair.
     pub fn find(self, pair: Pair) -> Option<Net>
         ensures { MatchOption result
@@ -39,7 +48,10 @@ impl Table<'_> {
             .map(|(v, _)| Net::of(v))
     }
 
-    /// The net that is the AND of a pair by the first line that fits, or none where that is a new vertex's.
+    /// The net that is the AND of a pair: in turn, what a constant, two equal nets or two inverse nets fold to, and the net
+    /// of the standing vertex that has the pair. None where the AND needs a new vertex.
+    // The arms stand in the order in which they are tried, the search as one of them. A guard binds no name, so the search
+    // is made before the `match`.
     pub fn lookup(self, pair: Pair) -> Option<Net>
         ensures { MatchOption result
             (Unknown self.entry.inputs self.entry.vertices.now pair.low.0 pair.high.0)

@@ -1,4 +1,7 @@
 //! Values as words of workspace: word `v` is 1 where vertex `v` has the value true, and 0 elsewhere.
+// Crate `simulation` fills such words too, with a bit for each of up to 64 codes. The two stay apart: here a vertex has the
+// value of one code, a `bool`; there it has the values of all codes, a word that is gathered for an input. What the two
+// loops prove is one lemma (proofs/Filling.antt).
 ghost use Rattle.std.specs.Prelude.{◌≡◌, ℕ, ◌/◌, ◌<◌, ◌≤◌, Bool, length};
 ghost use Rattle.aig.specs.Nets.{net_value};
 ghost use Rattle.aig.specs.Table.{left_of, right_of};
@@ -10,6 +13,8 @@ use crate::net::Net;
 use crate::table::Table;
 
 /// The value of a net, where `words` has those of the vertices.
+// `net_word` of simulation inverts a word as this does a `bool`. A method of `Net` over `T: Not` would save one line in
+// each, and both would have to say by the clauses of `Not` what `!` is.
 pub fn net_bit(words: &[u64], net: Net) -> bool
     requires { net.0 / 2 < length words.now }
     ensures { result ≡ net_value (held words.now) net.0 }

@@ -1,3 +1,4 @@
+-- The lemmas of this crate.
 pub mod Bitwise
 pub mod Firsts
 pub mod Filling

@@ -14,11 +14,10 @@ use Rattle.aig.specs.declared.graph.Graph.{Graph}
 use Rattle.aig.specs.Nets.{net_value}
 use Rattle.aig.specs.Graphs.{inputs_of, vertices, used}
 use Rattle.aig.specs.Values.{bit, value}
-use Rattle.aig.proofs.Graphs.{whole_of}
+use Rattle.aig.proofs.Filling.{net_filled}
 use Rattle.gates.specs.Kinds.{differ}
 use Rattle.simulation.specs.Earliest.{earliest}
 use Rattle.simulation.specs.Lanes.{lane, Simulated}
-use Rattle.simulation.proofs.Filling.{net_lane}
 use Rattle.simulation.proofs.Bitwise.{bit-bit_xor}
 
 -- no bit before the place that the trailing zeros of a word give is set, and the bit there is
@@ -36,7 +35,7 @@ holds : (g : Graph) (codes words : List ℕ) → length codes ≤ 64 → Simulat
     → (k : ℕ) → k < length codes → bit word k ≡ value (inputs_of g) (vertices g) net (get_or codes k 0)
 holds g codes words few sim net word inside f k h =
     f k (omega arith)
-    ∙ net_lane (inputs_of g) (vertices g) (whole_of g).earlier (get_or codes k 0) k words net (sim k (net / 2) h inside)
+    ∙ net_filled (inputs_of g) (vertices g) (get_or codes k 0) (lane words k) net (sim k (net / 2) h inside)
 
 -- the words `x` and `y` have the values of two functions under each code of a list
 module _ (codes : List ℕ) (few : length codes ≤ 64) (f g : ℕ → Bool) (x y : ℕ) (sx : x < 2 ^ 64) (sy : y < 2 ^ 64)

@@ -1,4 +1,6 @@
 //! The words of the vertices, filled in their order: a vertex reads earlier ones only.
+// `Graph::value` fills words with the values of one code, each a `bool`; here a word has the values of up to 64 codes, and is
+// gathered for an input. What the two loops prove is one lemma (`Filling` of aig).
 ghost use Rattle.std.specs.Prelude.{◌≡◌, ℕ, ◌/◌, ◌<◌, ◌≤◌, length, slice_index};
 ghost use Rattle.aig.specs.Nets.{net_value};
 ghost use Rattle.aig.specs.Values.{bit, value_by};

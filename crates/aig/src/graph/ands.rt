@@ -11,7 +11,8 @@ use crate::pair::Pair;
 use crate::vertex::Vertex;
 
 impl Graph {
-    /// The net that is the AND of `x` and `y`: folded, found or fresh, by the first line that fits.
+    /// The net that is the AND of `x` and `y`: what the pair of their survivors folds to, else the standing vertex that has
+    /// this pair, else a fresh vertex.
     pub fn and(&mut self, x: Net, y: Net) -> Net
         requires first { InUse self.old x }
         requires second { InUse self.old y }
@@ -19,8 +20,9 @@ impl Graph {
         ensures made { Anded (inputs_of self.old) (vertices self.old) x.0 y.0 result.0 (vertices self.new) }
         ensures same { SameBounds self.old self.new }
     {
-        let pair = Pair::new(self.survivor(x), self.survivor(y));
-        match self.as_table().lookup(pair) {
+        let table = self.as_table();
+        let pair = table.pair(x, y);
+        match table.lookup(pair) {
             Some(net) => net,
             None => self.grow(pair),
         }

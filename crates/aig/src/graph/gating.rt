@@ -10,6 +10,7 @@ use gates::Kind;
 
 impl Graph {
     /// The net of a gate, with its kind's Boolean function of its operands.
+    // `kind, a, b, c`: operands are told apart by their place, and a struct of the four would only be taken apart again here.
     pub fn gate(&mut self, kind: Kind, a: Net, b: Net, c: Net) -> Net
         requires first { InUse self.old a }
         requires second { reads_b (number_of kind) ≡ true → InUse self.old b }

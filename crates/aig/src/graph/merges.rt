@@ -15,7 +15,7 @@ impl Graph {
         ensures joined { Joined (inputs_of self.old) (vertices self.old) x.0 y.0 (vertices self.new) }
         ensures same { SameBounds self.old self.new }
     {
-        let Pair { low, high } = Pair::new(self.survivor(x), self.survivor(y));
+        let Pair { low, high } = self.as_table().pair(x, y);
         if low != high {
             self.merge(low.carried(high), high.vertex());
         }

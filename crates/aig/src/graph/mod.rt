@@ -2,7 +2,6 @@
 ghost use Rattle.std.specs.Prelude.{◌≡◌, ◌≤◌, length, vec_capacity};
 ghost use Rattle.aig.specs.Invariant.{InputsThere, LinksStand, ReadsEarlier, ReadsStanding, NoneFolds, NoTwins, LinksEqual};
 
-use crate::table::Table;
 use crate::vertex::Vertex;
 
 mod ands;
@@ -14,6 +13,8 @@ mod values;
 
 /// An and-inverter graph: a constant, the inputs, and the ANDs over them. A vertex is in use if the table holds it; there
 /// is memory for `places` vertices from the start.
+// Vertices are named by numbers, which callers are handed as nets, and all memory is reserved once: so an arena, no boxes.
+// `places` stands beside the vector: it is what the caller asked for, which the vector's capacity may exceed.
 #[derive(Drop)]
 pub struct Graph {
     inputs: usize,
@@ -30,19 +31,4 @@ pub struct Graph {
     ghost proper: { NoneFolds inputs table.items },
     ghost unique: { NoTwins inputs table.items },
     ghost equal: { LinksEqual inputs table.items },
-}
-
-impl Graph {
-    ghost use Rattle.aig.specs.Graphs.{inputs_of, vertices};
-
-    /// The table, to be read.
-    fn as_table(&self) -> Table<'_>
-        ensures inputs { result.inputs ≡ inputs_of self.now }
-        ensures vertices { result.vertices.now ≡ vertices self.now }
-    {
-        Table {
-            inputs: self.inputs,
-            vertices: &self.table,
-        }
-    }
 }

@@ -10,6 +10,7 @@ use std::alloc::{AllocError, Global};
 
 impl Graph {
     /// A graph with no input, no place and no vertex in use.
+    // No `Option` of a graph: a session without inputs and places answers every call by its ordinary checks.
     pub fn unopened(heap: Global) -> Graph
         ensures inputs { inputs_of result ≡ 0 }
         ensures places { places_of result ≡ 0 }

@@ -5,6 +5,7 @@ ghost use Rattle.aig.specs.Graphs.{inputs_of, places_of, vertices, used, InUse};
 
 use super::Graph;
 use crate::net::Net;
+use crate::table::Table;
 use crate::vertex::Vertex;
 
 impl Graph {
@@ -43,5 +44,16 @@ impl Graph {
         ensures { result.0 ≡ survivor_of (vertices self.now) net.0 }
     {
         self.as_table().survivor(net)
+    }
+
+    /// The table, to be read.
+    pub(super) fn as_table(&self) -> Table<'_>
+        ensures inputs { result.inputs ≡ inputs_of self.now }
+        ensures vertices { result.vertices.now ≡ vertices self.now }
+    {
+        Table {
+            inputs: self.inputs,
+            vertices: &self.table,
+        }
     }
 }

@@ -1,7 +1,6 @@
 -- What is left to show of `merge` and `rehash`, beyond what the search finds.
 use Rattle.std.proofs.Common.{◌+◌, List, sym, subst, arith, rules}
 use Rattle.aig.specs.declared.vertex.Vertex.{Vertex}
-use Rattle.aig.proofs.Orders.{ordered_at}
 use Rattle.aig.proofs.Sweeps.{Sweeping}
 use Rattle.aig.proofs.Merging.{sweep_none, sweep_less, sweep_dirty, sweep_all, sweep_more, sweep_skip}
 use Rattle.aig.proofs.Rehashing.{known_ready, known_done, after_ready, written_less, after_done, alone_done}
@@ -32,26 +31,21 @@ merge-returns t c = sweep_all c.requires c.relink.ensures c.loop-w.invariant c.l
 
 pub rehash-merge-requires : goal.rehash-merge-requires
 rehash-merge-requires t c =
-    let pair = ordered_at c.survivor.ensures c.survivor-2.ensures c.new-pair.ensures.low c.new-pair.ensures.high in
-    (omega (arith, c.decreases), known_ready c.requires pair _ c.in-Some.ensures (omega arith))
+    (omega (arith, c.decreases), known_ready c.requires c.pair-pair.ensures _ c.in-Some.ensures (omega arith))
 
 pub rehash-returns-in-Some : goal.rehash-returns-in-Some
 rehash-returns-in-Some t c =
-    let pair = ordered_at c.survivor.ensures c.survivor-2.ensures c.new-pair.ensures.low c.new-pair.ensures.high in
-    known_done c.requires pair _ c.in-Some.ensures (omega arith) c.merge.ensures
+    known_done c.requires c.pair-pair.ensures _ c.in-Some.ensures (omega arith) c.merge.ensures
 
 pub rehash-merge-requires-in-Some-2 : goal.rehash-merge-requires-in-Some-2
 rehash-merge-requires-in-Some-2 t c =
-    let pair = ordered_at c.survivor.ensures c.survivor-2.ensures c.new-pair.ensures.low c.new-pair.ensures.high in
-    let less = written_less c.requires pair in
-    (rw c.with.ensures (omega (arith, c.decreases, less)), rw (c.with.ensures, c.of.ensures, c.vertex-in-Some-2.ensures) (after_ready c.requires pair _ c.in-Some.ensures (omega arith)))
+    let less = written_less c.requires c.pair-pair.ensures in
+    (rw c.with.ensures (omega (arith, c.decreases, less)), rw (c.with.ensures, c.of.ensures, c.vertex-in-Some-2.ensures) (after_ready c.requires c.pair-pair.ensures _ c.in-Some.ensures (omega arith)))
 
 pub rehash-returns-in-Some-2 : goal.rehash-returns-in-Some-2
 rehash-returns-in-Some-2 t c =
-    let pair = ordered_at c.survivor.ensures c.survivor-2.ensures c.new-pair.ensures.low c.new-pair.ensures.high in
-    after_done c.requires pair _ c.in-Some.ensures (omega arith) (rw (c.with.ensures, c.of.ensures, c.vertex-in-Some-2.ensures) at c.merge-in-Some-2.ensures)
+    after_done c.requires c.pair-pair.ensures _ c.in-Some.ensures (omega arith) (rw (c.with.ensures, c.of.ensures, c.vertex-in-Some-2.ensures) at c.merge-in-Some-2.ensures)
 
 pub rehash-returns-in-None : goal.rehash-returns-in-None
 rehash-returns-in-None t c =
-    let pair = ordered_at c.survivor.ensures c.survivor-2.ensures c.new-pair.ensures.low c.new-pair.ensures.high in
-    rw c.with-in-None.ensures (alone_done c.requires pair c.in-None.ensures.proper (λ k g i s l r. c.in-None.ensures.absent k (record { after = g; inside = i; stands = s }) l r))
+    rw c.with-in-None.ensures (alone_done c.requires c.pair-pair.ensures c.in-None.ensures.proper (λ k g i s l r. c.in-None.ensures.absent k (record { after = g; inside = i; stands = s }) l r))

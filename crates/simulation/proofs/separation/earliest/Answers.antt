@@ -1,3 +1,4 @@
+-- What is left to show of `earliest`: the difference of the two words tells the first code, and so the law holds of it.
 use Rattle.std.proofs.Common.{◌^◌, ◌<◌, sym, subst, ◌∙◌, arith}
 use Rattle.aig.specs.Graphs.{inputs_of, vertices}
 use Rattle.aig.specs.Values.{value}

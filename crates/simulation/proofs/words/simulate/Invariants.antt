@@ -1,3 +1,4 @@
+-- What the loop in `simulate` keeps true: the words filled so far hold the values, and those not yet reached are as they were.
 use Rattle.std.proofs.Common.{◌≡◌, ℕ, ◌<◌, ◌≤◌, length, get_or}
 use Rattle.aig.specs.Values.{vertex_value}
 use Rattle.aig.specs.Graphs.{inputs_of, vertices}

@@ -1,3 +1,4 @@
+-- What is left to show of `vertex_word`: the AND of two words, bit by bit.
 use Rattle.std.proofs.Common.{◌<◌, Bool, ◌&&◌, get_or, sym, ap, ◌∙◌, arith}
 use Rattle.aig.specs.Nets.{net_value}
 use Rattle.aig.specs.Graphs.{inputs_of, vertices}

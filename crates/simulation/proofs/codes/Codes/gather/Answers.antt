@@ -1,3 +1,4 @@
+-- The fold over the codes from the last to the first packs their bits into a word.
 use Rattle.std.proofs.Common.{◌≡◌, fold, reverse, ap, ◌∙◌, rules}
 use Rattle.aig.specs.Values.{bit}
 use Rattle.simulation.proofs.Bitwise.{taken, taken_bit}
