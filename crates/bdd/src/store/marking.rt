@@ -1,6 +1,7 @@
 //! Marking the nodes of a diagram, from its own node down, in scratch of the table.
 //!
 //! These are functions of the nodes and the marks, and not methods of the table: so it shows that only marks change.
+//! They take the nodes, with `Good`, and not the set, whose type has it: the index has no part in what they do.
 ghost use Rattle.std.specs.Prelude.{◌≡◌, ℕ, ◌/◌, ◌<◌, ◌≤◌, false, length, take, count_by};
 ghost use Rattle.bdd.specs.Diagram.{node_at, Within, Good};
 ghost use Rattle.bdd.specs.Marking.{at, with_mark, Marks};
