@@ -12,7 +12,7 @@ ghost use Rattle.bdd.specs.Composing.{Is, Still, Extends, Denotes, NoRoom, Choic
 use super::Table;
 use super::marking::mark_diagram;
 use super::nodes::Node;
-use crate::edges::{Edge, FALSE, TRUE, edge_to, inverse, place_of, turned};
+use crate::edges::{Edge, FALSE, edge_to, inverse, place_of, turned};
 
 // The image of an edge, where each node before it has one.
 fn carry(images: &[Edge], e: Edge) -> Edge
@@ -43,11 +43,7 @@ impl Table {
         if w == change.var {
             return Some(change.by);
         }
-        self.mk(&Node {
-            var: w,
-            high: TRUE,
-            low: FALSE,
-        })
+        self.mk(&Node::of_variable(w))
     }
 
     // The function that is `high` where the test is true, and else `low`.

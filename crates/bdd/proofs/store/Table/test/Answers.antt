@@ -44,7 +44,7 @@ returns-clause-extends c =
     either c.mk.result (Full t u × Short ns w 1 0) (Made ns ms w 1 0) (PartOf ms (λ ρ. ρ w) i)
     (λ out. let same : length ms ≡ length ns = ap (λ x. length (nodes_of x)) out.0.1 in absurd (omega arith))
     (λ e made. variable_parts ns ms w e made i a b)
-    c.mk.ensures.cases in
+    (subst (λ (m : Node). MatchOption c.mk.result (Full t u × Short ns m.var m.high m.low) (Made ns ms m.var m.high m.low)) c.of_variable.ensures c.mk.ensures.cases) in
     record {
       limit_is = kept.limit_is;
       grown = kept.grown;
@@ -63,4 +63,4 @@ returns-clause-cases c =
     (λ out. let full = out.0 in let lack = out.1 in refusal ns ns φ (limit_of t) lack.extra t.set.good (grown_self ns) (omega (arith, full.0)) lack.good
     (λ i a b. part_own ns (ns ++ lack.extra ∷ []) c.args.change.var c.args.change.by w i c.if-w-change.false (variable_parts ns (ns ++ lack.extra ∷ []) w lack.result lack.made i a b)))
     (λ e made. record { inside = made.inside; value_is = λ ρ. variable_value ns ms w e made ρ ∙ own_is ns c.args.change.var c.args.change.by w c.if-w-change.false ρ })
-    c.mk.ensures.cases
+    (subst (λ (m : Node). MatchOption c.mk.result (Full t u × Short ns m.var m.high m.low) (Made ns ms m.var m.high m.low)) c.of_variable.ensures c.mk.ensures.cases)
