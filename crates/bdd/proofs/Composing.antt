@@ -1,6 +1,7 @@
 -- Steps of a composition: the nodes that they add, and that there is no room for them.
 use Rattle.std.proofs.Common.{◌≡◌, ℕ, ◌/◌, ◌<◌, ◌≤◌, Bool, true, false, cond, not, ◌&&◌, List, [], ◌∷◌, ◌++◌, length, sym, refl, ap, ◌∙◌, subst, ap₂, inl, inr, ⊎_elim, arith}
 use mathlib.Core.Path.{fun_ext}
+use Rattle.std.proofs.Math.Bool.{not-not}
 use Rattle.std.proofs.lemmas.Bool.{cases_lt}
 use Rattle.bdd.specs.declared.store.nodes.Node.{Node}
 use Rattle.bdd.specs.declared.store.Table.{Table}
@@ -10,7 +11,7 @@ use Rattle.bdd.specs.Size.{Fn, parts, distinct, table, all_parts, In, Only}
 use Rattle.bdd.specs.Laws.{Held, TooMany}
 use Rattle.bdd.specs.Contents.{nodes_of}
 use Rattle.bdd.specs.Composing.{Is, Among, NoRoom, Denotes, Extends, Still, choice}
-use Rattle.bdd.proofs.Values.{eval_kept, eval_flip, flip_half, grown_on, not_not}
+use Rattle.bdd.proofs.Values.{eval_kept, eval_flip, flip_half, grown_on}
 use Rattle.bdd.proofs.Growth.{part_kept}
 use Rattle.bdd.proofs.Pigeons.{Known, known_left, known_right}
 use Rattle.bdd.proofs.Counting.{part_input, held_kept}
@@ -131,7 +132,7 @@ neither_half ns n₁ n₂ test high low one other n_one n_other good₁ grown is
 pub turned_over : (ns : List Node) (e r : ℕ) (φ : (ℕ → Bool) → Bool) → r ≡ flip e → Denotes ns e (λ ρ. not (φ ρ)) → Denotes ns r φ
 turned_over ns e r φ is d = record {
   inside = let i = d.inside in let h = flip_half e in subst (λ x. x / 2 ≤ length ns) (sym is) (omega arith);
-  value_is = λ ρ. ap (eval ns ρ) is ∙ eval_flip ns ρ e ∙ ap not (d.value_is ρ) ∙ not_not (φ ρ);
+  value_is = λ ρ. ap (eval ns ρ) is ∙ eval_flip ns ρ e ∙ ap not (d.value_is ρ) ∙ not-not (φ ρ);
 }
 
 pub denotes_is : (ns : List Node) (e : ℕ) (φ ψ : (ℕ → Bool) → Bool) → Is φ ψ → Denotes ns e φ → Denotes ns e ψ

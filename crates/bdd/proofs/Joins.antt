@@ -1,5 +1,6 @@
 -- The steps of a conjunction.
-use Rattle.std.proofs.Common.{◌≡◌, ℕ, zero, suc, ◌+◌, ◌/◌, ◌<◌, ◌≤◌, min, Bool, true, false, not, ◌&&◌, ◌⊎◌, List, length, sym, refl, ap, ◌∙◌, ap₂, ⊎_elim, arith}
+use Rattle.std.proofs.Common.{◌≡◌, ℕ, zero, suc, ◌+◌, ◌/◌, ◌<◌, ◌≤◌, min, true, false, ◌&&◌, ◌⊎◌, List, length, sym, ap, ◌∙◌, ap₂, ⊎_elim, arith}
+use Rattle.std.proofs.Math.Bool.{and_self, and-true, and-false, not-and_self}
 use Rattle.std.proofs.lemmas.Bool.{cases_Bool}
 use Rattle.bdd.specs.declared.store.nodes.Node.{Node}
 use Rattle.bdd.specs.declared.store.Table.{Table}
@@ -19,29 +20,13 @@ pub var_inner : (ns : List Node) (j : ℕ) → Good ns → j ≤ length ns → 0
 var_inner ns zero good h p = absurd (omega arith)
 var_inner ns (suc i) good h p = (good.fits i h).bounded
 
-and_self : (b : Bool) → b ≡ (b && b)
-and_self true = refl
-and_self false = refl
-
-and_true : (b : Bool) → b ≡ (b && true)
-and_true true = refl
-and_true false = refl
-
-and_false : (b : Bool) → false ≡ (b && false)
-and_false true = refl
-and_false false = refl
-
-and_not : (b : Bool) → false ≡ (not b && b)
-and_not true = refl
-and_not false = refl
-
 pub both_f : (ns : List Node) (f g : ℕ) → f / 2 ≤ length ns → (f ≡ g) ⊎ (g ≡ 1) → Both ns ns f g f
 both_f ns f g inside which = record {
   inside = inside;
   first = λ v hf hg. hf;
   value_is = λ ρ. ⊎_elim
-      (λ e. and_self (eval ns ρ f) ∙ ap (λ x. eval ns ρ f && eval ns ρ x) e)
-      (λ e. and_true (eval ns ρ f) ∙ ap (λ b. eval ns ρ f && b) (sym (ap (eval ns ρ) e ∙ eval_true ns ρ)))
+      (λ e. sym (and_self (eval ns ρ f)) ∙ ap (λ x. eval ns ρ f && eval ns ρ x) e)
+      (λ e. sym (and-true (eval ns ρ f)) ∙ ap (λ b. eval ns ρ f && b) (sym (ap (eval ns ρ) e ∙ eval_true ns ρ)))
       which;
 }
 
@@ -59,8 +44,8 @@ both_none ns f g good inside which = record {
   value_is = λ ρ. eval_false ns ρ ∙ ⊎_elim
       (λ e. ap (λ b. b && eval ns ρ g) (sym (ap (eval ns ρ) e ∙ eval_false ns ρ)))
       (⊎_elim
-      (λ e. and_false (eval ns ρ f) ∙ ap (λ b. eval ns ρ f && b) (sym (ap (eval ns ρ) e ∙ eval_false ns ρ)))
-      (λ e. and_not (eval ns ρ g) ∙ ap (λ b. b && eval ns ρ g) (sym (ap (eval ns ρ) e ∙ eval_flip ns ρ g))))
+      (λ e. sym (and-false (eval ns ρ f)) ∙ ap (λ b. eval ns ρ f && b) (sym (ap (eval ns ρ) e ∙ eval_false ns ρ)))
+      (λ e. sym (not-and_self (eval ns ρ g)) ∙ ap (λ b. b && eval ns ρ g) (sym (ap (eval ns ρ) e ∙ eval_flip ns ρ g))))
       which;
 }
 

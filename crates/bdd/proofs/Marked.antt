@@ -97,13 +97,6 @@ marks_start ns e ms good inside room none = record {
   root = mark_own ms (e / 2) room;
 }
 
-pub marks_skip : (ns : List Node) (e n i : ℕ) (m : ℕ → Bool) → m i ≡ false → Marks ns e n (suc i) m → Marks ns e n i m
-marks_skip ns e n i m f s = record {
-  part = s.part;
-  closed = λ k le lt t. ⊎_elim (λ eq. absurd (both_ways (m k) (ap m (sym eq) ∙ f) t)) (λ ne. s.closed k (omega arith) lt t) (cases_eq i k);
-  root = s.root;
-}
-
 pub marks_step : (ns : List Node) (e n i : ℕ) (ms : List Bool) → Good ns → n ≤ length ns → n ≤ length ms → i < n → at ms i ≡ true → Marks ns e n (suc i) (at ms)
     → Marks ns e n i (at (with_mark (with_mark ms ((node_at ns i).high / 2)) ((node_at ns i).low / 2)))
 marks_step ns e n i ms good in-ns in-ms lt t s =

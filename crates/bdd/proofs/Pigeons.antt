@@ -1,8 +1,8 @@
 -- Lists of functions, where equal or opposite ones count once.
 use Rattle.std.proofs.Common.{◌≡◌, ℕ, zero, suc, ◌<◌, ◌≤◌, Bool, true, false, cond, ◌||◌, ltb, ◌⊎◌, List, [], ◌∷◌, ◌++◌, sym, refl, ap, ◌∙◌, subst, ap₂, inl, inr, ⊎_elim, arith}
+use Rattle.std.proofs.Math.Bool.{not-not}
 use Rattle.std.proofs.lemmas.Bool.{and_parts, and_from, or_cases, cases_Bool, cases_lt, cases_eq, lt-ltb, le-ltb, false≢true, both_ways}
 use Rattle.bdd.specs.Size.{Fn, one, fork, same_bit, same, opposite, known, distinct}
-use Rattle.bdd.proofs.Values.{not_not}
 
 same_bool : (a b : Bool) → same_bit a b ≡ true → a ≡ b
 same_bool true true h = refl
@@ -30,7 +30,7 @@ pub same_of : (t u : Fn) → t ≡ u → same t u ≡ true
 same_of t u e = subst (λ x. same t x ≡ true) e (same_self t)
 
 pub opposite_twice : (t : Fn) → opposite (opposite t) ≡ t
-opposite_twice (one b) = ap one (not_not b)
+opposite_twice (one b) = ap one (not-not b)
 opposite_twice (fork x y) = ap₂ fork (opposite_twice x) (opposite_twice y)
 
 -- equal or opposite

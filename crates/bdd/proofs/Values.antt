@@ -1,5 +1,6 @@
 -- What holds of the values of edges.
 use Rattle.std.proofs.Common.{◌≡◌, ℕ, zero, suc, ◌+◌, ◌-◌, ◌*◌, ◌/◌, ◌%◌, ◌<◌, ◌≤◌, Bool, true, false, cond, not, List, [], ◌∷◌, ◌++◌, length, get_or, take, Some, None, Option, is_some, sym, refl, ap, ◌∙◌, subst, inl, inr, ⊎_elim, arith, length-append, MatchOption}
+use Rattle.std.proofs.Math.Bool.{not-not}
 use Rattle.std.proofs.lemmas.Bool.Decides.{nat_tests}
 use Rattle.std.proofs.lemmas.List.{get_or_read, get_or_append_left, get_or_push, get_or_default, get_or-take, length-take-le, same_lists}
 use Rattle.std.proofs.lemmas.Bool.{ne_eqb, cases_lt, true≢false}
@@ -191,14 +192,6 @@ good_push ns n good f fresh =
           (cases_lt i (length ns));
     }
 
-pub cases_like : {A : Type 0} (o : Option A) (P : Type 0) (Q R : A → Type 0) → ((x : A) → Q x → R x) → MatchOption o P Q → MatchOption o P R
-cases_like None P Q R f h = h
-cases_like (Some x) P Q R f h = f x h
-
-pub not_not : (b : Bool) → not (not b) ≡ b
-not_not true = refl
-not_not false = refl
-
 pub turned_even : (e : ℕ) (b : Bool) → e % 2 ≡ 0 → turned (inverted e) b ≡ b
 turned_even e b h = ap (λ t. turned t b) (ne_eqb (e % 2) 1 (omega arith))
 
@@ -229,8 +222,8 @@ made_flipped ns ms v h l e m =
     record {
       inside = subst (λ j. j ≤ length ms) (sym (flip_half e)) m.inside;
       first = subst (λ j. v ≤ var_at ms j) (sym (flip_half e)) m.first;
-      high_is = λ ρ t. eval_flip ms ρ e ∙ ap not (m.high_is ρ t ∙ eval_flip ns ρ h) ∙ not_not (eval ns ρ h);
-      low_is = λ ρ t. eval_flip ms ρ e ∙ ap not (m.low_is ρ t ∙ eval_flip ns ρ l) ∙ not_not (eval ns ρ l);
+      high_is = λ ρ t. eval_flip ms ρ e ∙ ap not (m.high_is ρ t ∙ eval_flip ns ρ h) ∙ not-not (eval ns ρ h);
+      low_is = λ ρ t. eval_flip ms ρ e ∙ ap not (m.low_is ρ t ∙ eval_flip ns ρ l) ∙ not-not (eval ns ρ l);
       news = ⊎_elim (λ q. inl q) (λ q. inr (q.0, flip_half e ∙ q.1, q.2)) m.news;
     }
 

@@ -31,7 +31,8 @@ pub(crate) fn is_inverted(e: Edge) -> bool
     e % 2 == 1
 }
 
-// The place that the edge leads to.
+// The place that the edge leads to. It is a number, with the constant at 0, and no `Option` of a node: the definitions of
+// edges and of their values count places so.
 pub(crate) fn place_of(e: Edge) -> usize
     ensures { result ≡ e / 2 }
 {

@@ -24,6 +24,8 @@ mod walk;
 ///
 /// `marks` and `images` have a place for each node, and hold nothing between calls.
 // They are two, since `size` and `topmost` mark nodes and have no images.
+// That an edge lies within the table stands in the clauses: an edge outlives a cut, so that its place exists is a fact of
+// edge and table together, which no type of either holds.
 #[derive(Drop)]
 pub struct Table {
     set: NodeSet,
@@ -39,6 +41,7 @@ impl Table {
     ghost use Rattle.bdd.specs.Contents.{nodes_of, limit_of};
 
     /// An empty table with room for `limit` nodes, 1 to 16,384.
+    // The bounds are asked of the caller: a type of its own for `limit` would be one more number to convert at the call.
     pub fn new(heap: Global, limit: usize) -> Result<Table, AllocError>
         requires some { 0 < limit }
         requires small { limit ≤ 16384 }

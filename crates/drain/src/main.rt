@@ -9,19 +9,42 @@ mod model;
 use generator::Generator;
 use model::Model;
 use std::alloc::{AllocError, Global};
-use std::io;
+use std::{fmt, io};
 use worklist::heap::Heap;
 use worklist::items::Propagation;
 use worklist::list::{Full, WorkList};
 use worklist::ring::Ring;
 use worklist::through::{through_heap, through_ring};
 
+/// How many slots a list is lent.
+const SLOTS: usize = 48;
+
+/// How many calls a list gets.
+const CALLS: u32 = 6000;
+
+/// For how many calls it is mostly puts, and then mostly takes.
+const TURN: u32 = 400;
+
+/// Of how many calls `MANY` or `FEW` are puts, by turns.
+const OUT_OF: u64 = 16;
+
+const MANY: u64 = 11;
+
+const FEW: u64 = 5;
+
 /// How many items are passed through each list.
 const PASSED: usize = 2000;
 
-/// How often each answer came, how often it was not the model's, and how many items wait at the end.
-#[derive(Clone, Copy, Default)]
+/// One time more.
+fn count(times: &mut u32) {
+    *times = times.saturating_add(1);
+}
+
+/// How often each answer of the list of this name came, how often it was not the model's, and how many items wait at
+/// the end.
+#[derive(Clone, Copy)]
 struct Tally {
+    name: &'static str,
     put: u32,
     refused: u32,
     taken: u32,
@@ -30,25 +53,54 @@ struct Tally {
     waiting: usize,
 }
 
+impl Tally {
+    fn new(name: &'static str) -> Tally {
+        Tally {
+            name,
+            put: 0,
+            refused: 0,
+            taken: 0,
+            none: 0,
+            wrong: 0,
+            waiting: 0,
+        }
+    }
+}
+
+impl fmt::Display for Tally {
+    fn fmt<W: fmt::Write>(&self, f: &mut fmt::Formatter<W>) -> fmt::Result {
+        writeln!(
+            f,
+            "{}: put {} refused {} taken {} none {}",
+            self.name, self.put, self.refused, self.taken, self.none
+        )?;
+        write!(
+            f,
+            "{}: waiting {} wrong {}",
+            self.name, self.waiting, self.wrong
+        )
+    }
+}
+
 /// A work list, the slots that it is lent, the model that it is compared with, and the tally of its answers.
 // That the list is sound stands in the clauses: a ghost field is a proposition, and `sound` is any type.
 #[derive(Drop)]
 struct Trial<W: WorkList<Propagation>> {
     list: W,
-    slots: [Propagation; 48],
+    slots: [Propagation; SLOTS],
     model: Model,
     tally: Tally,
 }
 
 impl<W: WorkList<Propagation>> Trial<W> {
-    fn new(heap: Global) -> Trial<W>
+    fn new(heap: Global, name: &'static str) -> Trial<W>
         ensures { W.WorkList.sound result.list result.slots }
     {
         Trial {
             list: W::start(),
-            slots: [Propagation::default(); 48],
+            slots: [Propagation::default(); SLOTS],
             model: Model::new(heap),
-            tally: Tally::default(),
+            tally: Tally::new(name),
         }
     }
 
@@ -60,14 +112,14 @@ impl<W: WorkList<Propagation>> Trial<W> {
         let room = self.model.waiting() < self.slots.len();
         let answer = self.list.put(&mut self.slots, item);
         if answer.is_ok() != room {
-            self.tally.wrong = self.tally.wrong.saturating_add(1);
+            count(&mut self.tally.wrong);
         }
         match answer {
             Ok(()) => {
-                self.tally.put = self.tally.put.saturating_add(1);
+                count(&mut self.tally.put);
                 self.model.put(item)?;
             }
-            Err(Full) => self.tally.refused = self.tally.refused.saturating_add(1),
+            Err(Full) => count(&mut self.tally.refused),
         }
         Ok(())
     }
@@ -80,28 +132,29 @@ impl<W: WorkList<Propagation>> Trial<W> {
     {
         let answer = self.list.take(&mut self.slots);
         if answer != self.model.take(choose) {
-            self.tally.wrong = self.tally.wrong.saturating_add(1);
+            count(&mut self.tally.wrong);
         }
         match answer {
-            Some(_) => self.tally.taken = self.tally.taken.saturating_add(1),
-            None => self.tally.none = self.tally.none.saturating_add(1),
+            Some(_) => count(&mut self.tally.taken),
+            None => count(&mut self.tally.none),
         }
     }
 }
 
-/// Six thousand calls: mostly puts and mostly takes by turns, so that the list fills up and runs empty. `choose`
+/// A string of calls: mostly puts and mostly takes by turns, so that the list fills up and runs empty. `choose`
 /// answers which of the waiting items, the oldest first, is to be taken.
 fn mixed<W: WorkList<Propagation> + Drop, F: Fn(&[Propagation]) -> Option<Propagation> + Drop>(
     heap: Global,
+    name: &'static str,
     choose: F,
 ) -> Result<Tally, AllocError>
     requires { F.IsAlwaysCallable choose }
 {
-    let mut trial = Trial::<W>::new(heap);
+    let mut trial = Trial::<W>::new(heap, name);
     let mut numbers = Generator::new(7);
-    for round in 0..6000u32 {
-        let puts = if round / 400 % 2 == 0 { 11 } else { 5 };
-        if numbers.below(16) < puts {
+    for round in 0..CALLS {
+        let puts = if round / TURN % 2 == 0 { MANY } else { FEW };
+        if numbers.below(OUT_OF) < puts {
             trial.put(numbers.item())?;
         } else {
             trial.take(&choose);
@@ -138,19 +191,11 @@ fn displaced() -> usize {
         .count()
 }
 
-fn show(rt: &impl Print, name: &str, t: Tally) -> io::Result<()> {
-    println!(rt;
-        "{name}: put {} refused {} taken {} none {}",
-        t.put, t.refused, t.taken, t.none
-    )?;
-    println!(rt; "{name}: waiting {} wrong {}", t.waiting, t.wrong)
-}
-
 fn main(rt: HostRuntime) -> io::Result<()> {
     let least = |waiting: &[Propagation]| waiting.iter().copied().min();
     let oldest = |waiting: &[Propagation]| waiting.first().copied();
-    show(&rt, "heap", mixed::<Heap, _>(rt.alloc(), least)?)?;
-    show(&rt, "ring", mixed::<Ring, _>(rt.alloc(), oldest)?)?;
+    println!(rt; "{}", mixed::<Heap, _>(rt.alloc(), "heap", least)?)?;
+    println!(rt; "{}", mixed::<Ring, _>(rt.alloc(), "ring", oldest)?)?;
     println!(rt; "heap: {PASSED} passed, {} descents", descents())?;
     println!(rt; "ring: {PASSED} passed, {} displaced", displaced())
 }

@@ -8,7 +8,7 @@ ghost use Rattle.bdd.specs.Calls.{Built, Refused};
 
 use super::Table;
 use super::nodes::Node;
-use crate::edges::{Edge, FALSE, TRUE, edge_to, inverse, is_inverted};
+use crate::edges::{Edge, edge_to, inverse, is_inverted};
 
 impl Table {
     // The edge straight to a node, which is added if the table lacks it; none where the table is full.
@@ -59,10 +59,6 @@ impl Table {
         requires bounded { v < 4096 }
         ensures { MatchOption result (Refused self.old self.new (λ ρ. ρ v)) (λ e. Built self.old self.new (λ ρ. ρ v) e) }
     {
-        self.mk(&Node {
-            var: v,
-            high: TRUE,
-            low: FALSE,
-        })
+        self.mk(&Node::of_variable(v))
     }
 }

@@ -20,7 +20,7 @@ pub struct Entry {
     stamp: u32,
 }
 
-// An entry under no stamp.
+// An entry under no stamp: stamps begin at 1. An `Option` would make each entry larger and tell nothing more.
 const EMPTY: Entry = Entry {
     pair: Pair { f: FALSE, g: FALSE },
     result: FALSE,
@@ -46,7 +46,8 @@ impl Cache {
         Ok(Cache { entries, stamp: 1 })
     }
 
-    // Where the entry of the pair lies.
+    // Where the entry of the pair lies. It is not the hash of `bucket`: another thing is hashed, and the index's contracts
+    // name the bucket, while any place does here.
     fn spot(&self, pair: Pair) -> usize
         ensures { result < vec_len self.now.entries }
     {

@@ -12,7 +12,7 @@ ghost use Rattle.bdd.specs.Composing.{Is, Still, Extends, Denotes, NoRoom, Choic
 use super::Table;
 use super::marking::mark_diagram;
 use super::nodes::Node;
-use crate::edges::{Edge, FALSE, TRUE, edge_to, inverse, place_of, turned};
+use crate::edges::{Edge, FALSE, edge_to, inverse, place_of, turned};
 
 // The image of an edge, where each node before it has one.
 fn carry(images: &[Edge], e: Edge) -> Edge
@@ -32,22 +32,18 @@ struct Substitution {
 }
 
 impl Table {
-    // What takes the place of the variable w.
-    fn test(&mut self, w: u16, put: Substitution) -> Option<Edge>
+    // What takes the place of the variable w: the edge of the change in that of its own, and else the variable itself.
+    fn test(&mut self, w: u16, change: Substitution) -> Option<Edge>
         requires bounded { w < 4096 }
-        requires within { Within (nodes_of self.old) put.by }
+        requires within { Within (nodes_of self.old) change.by }
         ensures still { Still self.old self.new }
-        ensures extends { Extends (λ φ. Is φ (tested (nodes_of self.old) put.var put.by w)) self.old self.new }
-        ensures cases { MatchOption result (TooMany (nodes_of self.old) (limit_of self.old) (tested (nodes_of self.old) put.var put.by w)) (λ e. Denotes (nodes_of self.new) e (tested (nodes_of self.old) put.var put.by w)) }
+        ensures extends { Extends (λ φ. Is φ (tested (nodes_of self.old) change.var change.by w)) self.old self.new }
+        ensures cases { MatchOption result (TooMany (nodes_of self.old) (limit_of self.old) (tested (nodes_of self.old) change.var change.by w)) (λ e. Denotes (nodes_of self.new) e (tested (nodes_of self.old) change.var change.by w)) }
     {
-        if w == put.var {
-            return Some(put.by);
+        if w == change.var {
+            return Some(change.by);
         }
-        self.mk(&Node {
-            var: w,
-            high: TRUE,
-            low: FALSE,
-        })
+        self.mk(&Node::of_variable(w))
     }
 
     // The function that is `high` where the test is true, and else `low`.
@@ -66,37 +62,37 @@ impl Table {
     }
 
     // The image of the node i, whose children have theirs. A node past the variable is its own.
-    fn image(&mut self, i: usize, put: Substitution) -> Option<Edge>
+    fn image(&mut self, i: usize, change: Substitution) -> Option<Edge>
         requires inside { i < length (nodes_of self.old) }
-        requires within { Within (nodes_of self.old) put.by }
-        requires high { Denotes (nodes_of self.old) (carried self.old.images.items (node_at (nodes_of self.old) i).high) (composed (nodes_of self.old) put.var put.by (node_at (nodes_of self.old) i).high) }
-        requires low { Denotes (nodes_of self.old) (carried self.old.images.items (node_at (nodes_of self.old) i).low) (composed (nodes_of self.old) put.var put.by (node_at (nodes_of self.old) i).low) }
+        requires within { Within (nodes_of self.old) change.by }
+        requires high { Denotes (nodes_of self.old) (carried self.old.images.items (node_at (nodes_of self.old) i).high) (composed (nodes_of self.old) change.var change.by (node_at (nodes_of self.old) i).high) }
+        requires low { Denotes (nodes_of self.old) (carried self.old.images.items (node_at (nodes_of self.old) i).low) (composed (nodes_of self.old) change.var change.by (node_at (nodes_of self.old) i).low) }
         ensures still { Still self.old self.new }
-        ensures extends { Extends (NodeStep (nodes_of self.old) put.var put.by i) self.old self.new }
-        ensures cases { MatchOption result (NoRoom (NodeStep (nodes_of self.old) put.var put.by i) (nodes_of self.old) (limit_of self.old)) (λ e. Denotes (nodes_of self.new) e (composed (nodes_of self.old) put.var put.by (2 * (i + 1)))) }
+        ensures extends { Extends (NodeStep (nodes_of self.old) change.var change.by i) self.old self.new }
+        ensures cases { MatchOption result (NoRoom (NodeStep (nodes_of self.old) change.var change.by i) (nodes_of self.old) (limit_of self.old)) (λ e. Denotes (nodes_of self.new) e (composed (nodes_of self.old) change.var change.by (2 * (i + 1)))) }
     {
         let n = self.set.nodes[i];
-        if n.var > put.var {
+        if n.var > change.var {
             return Some(edge_to(i));
         }
         let high = carry(&self.images, n.high);
         let low = carry(&self.images, n.low);
-        let test = self.test(n.var, put)?;
+        let test = self.test(n.var, change)?;
         self.choose(test, high, low)
     }
 
     // Gives each node of the diagram its image; none where nodes are wanting, and those made so far stay.
-    fn map_diagram(&mut self, f: Edge, put: Substitution) -> Option<()>
+    fn map_diagram(&mut self, f: Edge, change: Substitution) -> Option<()>
         requires f_within { Within (nodes_of self.old) f }
-        requires g_within { Within (nodes_of self.old) put.by }
-        ensures extends { Extends (ComposeStep (nodes_of self.old) f put.var put.by) self.old self.new }
-        ensures cases { MatchOption result (NoRoom (ComposeStep (nodes_of self.old) f put.var put.by) (nodes_of self.old) (limit_of self.old)) (λ _. Denotes (nodes_of self.new) (carried self.new.images.items f) (composed (nodes_of self.old) put.var put.by f)) }
+        requires g_within { Within (nodes_of self.old) change.by }
+        ensures extends { Extends (ComposeStep (nodes_of self.old) f change.var change.by) self.old self.new }
+        ensures cases { MatchOption result (NoRoom (ComposeStep (nodes_of self.old) f change.var change.by) (nodes_of self.old) (limit_of self.old)) (λ _. Denotes (nodes_of self.new) (carried self.new.images.items f) (composed (nodes_of self.old) change.var change.by f)) }
     {
         let set = &self.set;
         mark_diagram(&set.nodes, &mut self.marks, f);
         for i in 0..place_of(f) {
             if self.marks[i] {
-                self.images[i] = self.image(i, put)?;
+                self.images[i] = self.image(i, change)?;
             }
         }
         Some(())

@@ -49,7 +49,8 @@ impl Table {
         Some(result)
     }
 
-    // The same, where a new node and what is wanting are said in terms of the function.
+    // The same, where a new node and what is wanting are said in terms of the function. The clauses follow from those of
+    // `conjoin`, and stand apart so that not each of its returns has to prove them too.
     pub(super) fn meet(&mut self, f: Edge, g: Edge) -> Option<Edge>
         requires f_within { Within (nodes_of self.old) f }
         requires g_within { Within (nodes_of self.old) g }

@@ -19,7 +19,7 @@ fn diagram_size(nodes: &[Node], marks: &mut [bool], e: Edge) -> usize
     ensures { (vs : List ℕ) → Ascending vs → Inputs nodes.now vs → result ≡ size_of vs (λ ρ. eval nodes.now ρ e) }
 {
     mark_diagram(nodes, marks, e);
-    count_marks(marks, place_of(e))
+    count_marks(&marks[..place_of(e)])
 }
 
 impl Table {

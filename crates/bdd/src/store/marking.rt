@@ -1,7 +1,8 @@
 //! Marking the nodes of a diagram, from its own node down, in scratch of the table.
 //!
 //! These are functions of the nodes and the marks, and not methods of the table: so it shows that only marks change.
-ghost use Rattle.std.specs.Prelude.{◌≡◌, ℕ, ◌/◌, ◌<◌, ◌≤◌, false, length, take, count_by};
+//! They take the nodes, with `Good`, and not the set, whose type has it: the index has no part in what they do.
+ghost use Rattle.std.specs.Prelude.{◌≡◌, ℕ, ◌/◌, ◌<◌, ◌≤◌, false, length, count_by};
 ghost use Rattle.bdd.specs.Diagram.{node_at, Within, Good};
 ghost use Rattle.bdd.specs.Marking.{at, with_mark, Marks};
 
@@ -48,10 +49,9 @@ pub(super) fn mark_diagram(nodes: &[Node], marks: &mut [bool], e: Edge)
     }
 }
 
-// How many of the first n marks are set.
-pub(super) fn count_marks(marks: &[bool], n: usize) -> usize
-    requires { n ≤ length marks.now }
-    ensures { result ≡ count_by (λ marked. marked) (take n marks.now) }
+// How many marks are set.
+pub(super) fn count_marks(marks: &[bool]) -> usize
+    ensures { result ≡ count_by (λ marked. marked) marks.now }
 {
-    marks[..n].iter().filter(|&&marked| marked).count()
+    marks.iter().filter(|&&marked| marked).count()
 }

@@ -13,8 +13,11 @@ use std::alloc::{AllocError, Global};
 ///
 /// `heads` has, for each bucket, the place of its last node, and `next` for each node the place of the one before it in
 /// its bucket; 0, which is the constant and in no bucket, ends one.
-// A map of the library can want memory at an insert, and nothing allocates once the table is made: so the chains are places.
-// `next` lies beside `nodes`, and not in each, since all but a search reads a slice of nodes alone.
+// A map of the library promises room after a reservation, but not that a cut gives the room back, so an insert after cuts
+// could want memory; and nothing allocates once the table is made: so the chains are places.
+// Place 0 ends one, since an `Option<u32>` would take twice the room of a place.
+// `next` lies beside `nodes`, and not in each, since all but a search reads a slice of nodes alone. `limit` is the length
+// of `heads`, and is kept since the contracts name it.
 #[derive(Drop)]
 pub struct NodeSet {
     pub(super) nodes: Vec<Node>,
@@ -61,7 +64,7 @@ impl NodeSet {
         self.nodes.len() >= self.limit
     }
 
-    // Where the node is, if it is there.
+    // Where the node is, if it is there. The walk goes from place to place, so it counts nothing that a `for` could count.
     pub(super) fn find(&self, n: &Node) -> Option<usize>
         ensures { MatchOption result (Lacks self.now.nodes.items n.now) (λ k. (k < length self.now.nodes.items) × (node_at self.now.nodes.items k ≡ n.now)) }
     {
@@ -102,7 +105,7 @@ impl NodeSet {
         self.heads[b] = before;
     }
 
-    // Takes the nodes from `mark` on back.
+    // Takes the nodes from `mark` on back, one by one: each one's bucket is to lose it. The length is what the loop goes by.
     pub(super) fn cut(&mut self, mark: usize)
         requires { mark ≤ length self.old.nodes.items }
         ensures limit { self.new.limit ≡ self.old.limit }

@@ -1,9 +1,9 @@
 //! Nodes: a function that is chosen by one variable.
 ghost use Rattle.std.specs.Prelude.{◌≡◌, ◌<◌};
-ghost use Rattle.bdd.specs.Diagram.{child as child_of};
+ghost use Rattle.bdd.specs.Diagram.{child as child_of, node};
 ghost use Rattle.bdd.specs.Index.{bucket_of};
 
-use crate::edges::Edge;
+use crate::edges::{Edge, FALSE, TRUE};
 
 /// The function that is `high` where the variable is true, and else `low`.
 #[derive(Clone, Copy, PartialEq, Eq, Debug, Drop)]
@@ -14,6 +14,17 @@ pub struct Node {
 }
 
 impl Node {
+    // The node of a variable: true where it is.
+    pub(crate) fn of_variable(v: u16) -> Node
+        ensures { result ≡ node v 1 0 }
+    {
+        Node {
+            var: v,
+            high: TRUE,
+            low: FALSE,
+        }
+    }
+
     // The edge that the node leads to where its variable has this value.
     pub(crate) fn child(self, value: bool) -> Edge
         ensures { result ≡ child_of self value }

@@ -9,10 +9,11 @@ use crate::edges::{Edge, place_of, turned};
 
 // What stands for the variable of a constant: it comes after every variable, so that the lesser of two first variables
 // is the first of both.
+// A variable is a `u16` below it, by a clause: a narrower type would be one more number to convert at each call.
 pub(super) const NO_VAR: u16 = 4096;
 
 impl Table {
-    // The variable that the edge's function looks at first, or 4096 at a constant.
+    // The variable that the edge's function looks at first, or `NO_VAR` at a constant.
     pub(super) fn top(&self, e: Edge) -> u16
         requires { Within (nodes_of self.now) e }
         ensures { result ≡ first_var (nodes_of self.now) e }

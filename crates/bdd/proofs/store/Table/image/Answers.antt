@@ -12,23 +12,23 @@ use Rattle.bdd.proofs.Composing.{room_refused, room_before, room_more, extends_m
 use Rattle.bdd.proofs.Images.{past_denotes, node_choice, choice_like, choice_step}
 use Rattle.bdd.proofs.store.Table.image.Goals as goal
 
-pub returns-then-n-put-clause-cases : goal.returns-then-n-put-clause-cases
-returns-then-n-put-clause-cases c =
+pub returns-then-n-change-clause-cases : goal.returns-then-n-change-clause-cases
+returns-then-n-change-clause-cases c =
     let ns : List Node = nodes_of c.args.self.now in
     let i : ℕ = c.args.i in
-    let v : ℕ = c.args.put.var in
-    let g : ℕ = c.args.put.by in
+    let v : ℕ = c.args.change.var in
+    let g : ℕ = c.args.change.by in
     let read : c.index-n.result.now ≡ node_at ns i = get_or_read ns i c.index-n.result.now c.requires.inside c.index-n.ensures (node 0 0 0) in
     subst (λ e. Denotes ns e (composed ns v g (2 * (i + 1)))) (sym c.edge_to.ensures)
-    (past_denotes ns v g i c.args.self.now.set.good c.requires.inside (subst (λ x. v < x.var) read c.if-n-put.true))
+    (past_denotes ns v g i c.args.self.now.set.good c.requires.inside (subst (λ x. v < x.var) read c.if-n-change.true))
 
 pub returns-in_err-test : goal.returns-in_err-test
 returns-in_err-test c =
     let t : Table = c.args.self.now in
     let ns : List Node = nodes_of t in
     let i : ℕ = c.args.i in
-    let v : ℕ = c.args.put.var in
-    let g : ℕ = c.args.put.by in
+    let v : ℕ = c.args.change.var in
+    let g : ℕ = c.args.change.by in
     let n : Node = node_at ns i in
     let n' : Node = c.index-n.result.now in
     let good = c.args.self.now.set.good in
@@ -50,8 +50,8 @@ returns c =
     let t : Table = c.args.self.now in
     let ns : List Node = nodes_of t in
     let i : ℕ = c.args.i in
-    let v : ℕ = c.args.put.var in
-    let g : ℕ = c.args.put.by in
+    let v : ℕ = c.args.change.var in
+    let g : ℕ = c.args.change.by in
     let n : Node = node_at ns i in
     let n' : Node = c.index-n.result.now in
     let good = c.args.self.now.set.good in

@@ -34,16 +34,16 @@ read c =
 
 -- the image of a child of the node
 child_is : (c : After-index) (b : Bool) → c.index.result.now ≡ true → Denotes (nodes_of c.loop-i.self) (carried (vec_items c.loop-i.self.images) (child (node_at (nodes_of c.loop-i.self) c.loop-i.i) b))
-    (composed (nodes_of c.loop-i.self) c.args.put.var c.args.put.by (child (node_at (nodes_of c.loop-i.self) c.loop-i.i) b))
+    (composed (nodes_of c.loop-i.self) c.args.change.var c.args.change.by (child (node_at (nodes_of c.loop-i.self) c.loop-i.i) b))
 child_is c b marked =
     let t : Table = c.args.self.now in
     let u : Table = c.loop-i.self in
     let inv = c.loop-i.invariant in
-    child_image (nodes_of t) (nodes_of u) (vec_items u.images) (at (vec_items u.marks)) c.args.f c.args.put.var c.args.put.by c.loop-i.i (c.args.f / 2) b t.set.good inv.extends.grown c.requires.g_within c.requires.f_within (early c)
+    child_image (nodes_of t) (nodes_of u) (vec_items u.images) (at (vec_items u.marks)) c.args.f c.args.change.var c.args.change.by c.loop-i.i (c.args.f / 2) b t.set.good inv.extends.grown c.requires.g_within c.requires.f_within (early c)
     inv.marks (sym (read c) ∙ marked) inv.done
 
 -- a step at the node is one of the composition's
-step_of : (c : After-index) → c.index.result.now ≡ true → (φ : (ℕ → Bool) → Bool) → NodeStep (nodes_of c.loop-i.self) c.args.put.var c.args.put.by c.loop-i.i φ → ComposeStep (nodes_of c.args.self.now) c.args.f c.args.put.var c.args.put.by φ
+step_of : (c : After-index) → c.index.result.now ≡ true → (φ : (ℕ → Bool) → Bool) → NodeStep (nodes_of c.loop-i.self) c.args.change.var c.args.change.by c.loop-i.i φ → ComposeStep (nodes_of c.args.self.now) c.args.f c.args.change.var c.args.change.by φ
 step_of c marked φ s =
     let t : Table = c.args.self.now in
     let inv = c.loop-i.invariant in
@@ -52,17 +52,17 @@ step_of c marked φ s =
       at = c.loop-i.i;
       before = lt;
       of_diagram = inv.marks.part c.loop-i.i lt (sym (read c) ∙ marked);
-      is = step_kept (nodes_of t) (nodes_of c.loop-i.self) c.args.put.var c.args.put.by c.loop-i.i t.set.good inv.extends.grown c.requires.g_within (omega (arith, c.requires.f_within)) φ s;
+      is = step_kept (nodes_of t) (nodes_of c.loop-i.self) c.args.change.var c.args.change.by c.loop-i.i t.set.good inv.extends.grown c.requires.g_within (omega (arith, c.requires.f_within)) φ s;
     }
 
 -- what the turn adds is of the composition's steps
-turned : (c : After-index) (w : Table) → c.index.result.now ≡ true → Extends (NodeStep (nodes_of c.loop-i.self) c.args.put.var c.args.put.by c.loop-i.i) c.loop-i.self w
-    → Extends (ComposeStep (nodes_of c.args.self.now) c.args.f c.args.put.var c.args.put.by) c.args.self.now w
+turned : (c : After-index) (w : Table) → c.index.result.now ≡ true → Extends (NodeStep (nodes_of c.loop-i.self) c.args.change.var c.args.change.by c.loop-i.i) c.loop-i.self w
+    → Extends (ComposeStep (nodes_of c.args.self.now) c.args.f c.args.change.var c.args.change.by) c.args.self.now w
 turned c w marked y =
     let t : Table = c.args.self.now in
     let u : Table = c.loop-i.self in
-    let S : ((ℕ → Bool) → Bool) → Type 0 = ComposeStep (nodes_of t) c.args.f c.args.put.var c.args.put.by in
-    extends_on S t u w c.loop-i.invariant.extends (extends_more (NodeStep (nodes_of u) c.args.put.var c.args.put.by c.loop-i.i) S u w (step_of c marked) y)
+    let S : ((ℕ → Bool) → Bool) → Type 0 = ComposeStep (nodes_of t) c.args.f c.args.change.var c.args.change.by in
+    extends_on S t u w c.loop-i.invariant.extends (extends_more (NodeStep (nodes_of u) c.args.change.var c.args.change.by c.loop-i.i) S u w (step_of c marked) y)
 
 pub image-requires-clause-high : goal.image-requires-clause-high
 image-requires-clause-high c = child_is (goal.at.image-requires-clause-high c).After-index true c.if-index.true
@@ -81,8 +81,8 @@ returns-in_err-self-clause-cases c =
     let u : Table = c.loop-i.self in
     let w : Table = c.image.new.self in
     let f : ℕ = c.args.f in
-    let v : ℕ = c.args.put.var in
-    let g : ℕ = c.args.put.by in
+    let v : ℕ = c.args.change.var in
+    let g : ℕ = c.args.change.by in
     let x = c.loop-i.invariant.extends in
     let S : ((ℕ → Bool) → Bool) → Type 0 = ComposeStep (nodes_of t) f v g in
     let N : ((ℕ → Bool) → Bool) → Type 0 = NodeStep (nodes_of u) v g c.loop-i.i in
@@ -96,8 +96,8 @@ loop-i-preserved c =
     let t : Table = c.args.self.now in
     let ns : List Node = nodes_of t in
     let f : ℕ = c.args.f in
-    let v : ℕ = c.args.put.var in
-    let g : ℕ = c.args.put.by in
+    let v : ℕ = c.args.change.var in
+    let g : ℕ = c.args.change.by in
     let i : ℕ = c.loop-i.i in
     let u : Table = c.loop-i.self in
     let ms : List Node = nodes_of u in
@@ -139,8 +139,8 @@ pub returns-clause-cases : goal.returns-clause-cases
 returns-clause-cases c =
     let ns : List Node = nodes_of c.args.self.now in
     let f : ℕ = c.args.f in
-    let v : ℕ = c.args.put.var in
-    let g : ℕ = c.args.put.by in
+    let v : ℕ = c.args.change.var in
+    let g : ℕ = c.args.change.by in
     let i : ℕ = c.loop-i.i in
     let u : Table = c.loop-i.self in
     let inv = c.loop-i.invariant in

@@ -26,10 +26,10 @@ own_is ns v g w ne ρ = sym (ap (λ b. cond b (eval ns ρ g) (ρ w)) (ne_eqb w v
 part_own : (ns ms : List Node) (v g w i : ℕ) → (w ≡ v → ⊥) → PartOf ms (λ ρ. ρ w) i → PartOf ms (tested ns v g w) i
 part_own ns ms v g w i ne p = subst (λ χ. PartOf ms χ i) (fun_ext (own_is ns v g w ne)) p
 
-pub returns-then-w-put-clause-cases : goal.returns-then-w-put-clause-cases
-returns-then-w-put-clause-cases c =
+pub returns-then-w-change-clause-cases : goal.returns-then-w-change-clause-cases
+returns-then-w-change-clause-cases c =
     let ns : List Node = nodes_of c.args.self.now in
-    record { inside = c.requires.within; value_is = λ ρ. sym (ap (λ b. cond b (eval ns ρ c.args.put.by) (ρ c.args.w)) (eq-eqb c.args.w c.args.put.var c.if-w-put.true)) }
+    record { inside = c.requires.within; value_is = λ ρ. sym (ap (λ b. cond b (eval ns ρ c.args.change.by) (ρ c.args.w)) (eq-eqb c.args.w c.args.change.var c.if-w-change.true)) }
 
 pub returns-clause-extends : goal.returns-clause-extends
 returns-clause-extends c =
@@ -39,16 +39,16 @@ returns-clause-extends c =
     let ms : List Node = nodes_of u in
     let w : ℕ = c.args.w in
     let kept = c.mk.ensures.kept in
-    let φ : (ℕ → Bool) → Bool = tested ns c.args.put.var c.args.put.by w in
+    let φ : (ℕ → Bool) → Bool = tested ns c.args.change.var c.args.change.by w in
     let new_part : (i : ℕ) → length ns ≤ i → i < length ms → PartOf ms (λ ρ. ρ w) i = λ i a b.
     either c.mk.result (Full t u × Short ns w 1 0) (Made ns ms w 1 0) (PartOf ms (λ ρ. ρ w) i)
     (λ out. let same : length ms ≡ length ns = ap (λ x. length (nodes_of x)) out.0.1 in absurd (omega arith))
     (λ e made. variable_parts ns ms w e made i a b)
-    c.mk.ensures.cases in
+    (subst (λ (m : Node). MatchOption c.mk.result (Full t u × Short ns m.var m.high m.low) (Made ns ms m.var m.high m.low)) c.of_variable.ensures c.mk.ensures.cases) in
     record {
       limit_is = kept.limit_is;
       grown = kept.grown;
-      parts = λ i a b. record { step = φ; is_step = λ ρ. refl; part = part_own ns ms c.args.put.var c.args.put.by w i c.if-w-put.false (new_part i a b) };
+      parts = λ i a b. record { step = φ; is_step = λ ρ. refl; part = part_own ns ms c.args.change.var c.args.change.by w i c.if-w-change.false (new_part i a b) };
     }
 
 pub returns-clause-cases : goal.returns-clause-cases
@@ -58,9 +58,9 @@ returns-clause-cases c =
     let ns : List Node = nodes_of t in
     let ms : List Node = nodes_of u in
     let w : ℕ = c.args.w in
-    let φ : (ℕ → Bool) → Bool = tested ns c.args.put.var c.args.put.by w in
+    let φ : (ℕ → Bool) → Bool = tested ns c.args.change.var c.args.change.by w in
     cases_map c.mk.result (Full t u × Short ns w 1 0) (TooMany ns (limit_of t) φ) (Made ns ms w 1 0) (λ e. Denotes ms e φ)
     (λ out. let full = out.0 in let lack = out.1 in refusal ns ns φ (limit_of t) lack.extra t.set.good (grown_self ns) (omega (arith, full.0)) lack.good
-    (λ i a b. part_own ns (ns ++ lack.extra ∷ []) c.args.put.var c.args.put.by w i c.if-w-put.false (variable_parts ns (ns ++ lack.extra ∷ []) w lack.result lack.made i a b)))
-    (λ e made. record { inside = made.inside; value_is = λ ρ. variable_value ns ms w e made ρ ∙ own_is ns c.args.put.var c.args.put.by w c.if-w-put.false ρ })
-    c.mk.ensures.cases
+    (λ i a b. part_own ns (ns ++ lack.extra ∷ []) c.args.change.var c.args.change.by w i c.if-w-change.false (variable_parts ns (ns ++ lack.extra ∷ []) w lack.result lack.made i a b)))
+    (λ e made. record { inside = made.inside; value_is = λ ρ. variable_value ns ms w e made ρ ∙ own_is ns c.args.change.var c.args.change.by w c.if-w-change.false ρ })
+    (subst (λ (m : Node). MatchOption c.mk.result (Full t u × Short ns m.var m.high m.low) (Made ns ms m.var m.high m.low)) c.of_variable.ensures c.mk.ensures.cases)

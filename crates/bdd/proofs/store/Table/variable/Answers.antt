@@ -1,5 +1,5 @@
 -- The node of a variable has its function, and is a part of it.
-use Rattle.std.proofs.Common.{List, [], ◌∷◌, ◌++◌, ap, arith}
+use Rattle.std.proofs.Common.{List, [], ◌∷◌, ◌++◌, MatchOption, ap, subst, arith}
 use Rattle.bdd.specs.declared.store.nodes.Node.{Node}
 use Rattle.bdd.specs.Steps.{Made, Short}
 use Rattle.bdd.specs.Contents.{Full, nodes_of, limit_of}
@@ -30,4 +30,4 @@ returns c =
       value_is = variable_value ns ms v e made;
       parts = variable_parts ns ms v e made;
     })
-    c.mk.ensures.cases
+    (subst (λ (m : Node). MatchOption c.mk.result (Full t u × Short ns m.var m.high m.low) (Made ns ms m.var m.high m.low)) c.of_variable.ensures c.mk.ensures.cases)
