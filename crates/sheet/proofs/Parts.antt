@@ -101,6 +101,11 @@ outputs_back (o ∷ os) ys =
 pub ahead_is : (w : OutputRecords) (os : List Output) → Ahead w os → outputs_ahead w ≡ os
 ahead_is w os a = ap (λ n. outputs_in n w.rest.now) (sym a.count) ∙ ap (outputs_in (length os)) (a.is ∙ sym (append-nil _)) ∙ outputs_back os []
 
+-- where no output is to be found, none lies ahead
+pub none_ahead : (w : OutputRecords) (os : List Output) → outputs_ahead w ≡ [] → Ahead w os → (None ≡ item os 0) × Ahead w (drop 1 os)
+none_ahead w [] e a = (refl, a)
+none_ahead w (o ∷ os) e a = absurd (omega (arith, ap length (sym e ∙ ahead_is w (o ∷ os) a)))
+
 -- the record at the front of the bytes of an output is that output
 split_is : (xs : List ℕ) (o p : Output) (ys zs : List ℕ) → xs ≡ output_bytes o ++ ys → Split xs p zs → (p ≡ o) × (zs ≡ ys)
 split_is xs o p ys zs e s =
