@@ -8,6 +8,7 @@ use crate::fault::{FieldFault, Flaw};
 use crate::gate::Gate;
 use gates::{reads_b, reads_c};
 
+// `read` is no flag on `own`: whether the kind reads the operand is a fact of the kind, `own` is one of the gate. The format's definition takes the same two.
 /// Whether an operand is below the signal of its own gate, or 0 where the gate does not read it.
 pub fn operand_fits(read: bool, own: u16, operand: u16) -> bool
     ensures { result ≡ operand_fits read own operand }

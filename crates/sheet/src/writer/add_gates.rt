@@ -53,6 +53,7 @@ impl Gates {
         ensures state { AddingGate place.old self gate result place.new }
         ensures refusal { refused result ≡ gate_refusal (length place.old) self gate }
     {
+        // Not by `map_err`: its closure would move the writer also where the call goes on.
         let at = match self.place_of_gate(gate, place.len()) {
             Ok(at) => at,
             Err(refusal) => return refuse(self, refusal),

@@ -12,6 +12,7 @@ use crate::refusal::{Refusal, Refused, refuse};
 use crate::writer::names::check_output;
 use crate::writer::{Gates, Outputs, put};
 
+// The calls of `Gates` and of `Outputs` are not one: they start at different places and after different earlier names, and promise so.
 impl Gates {
     /// Where the first output ends in a place of `room` bytes, or why it is not written.
     fn end_of_first(&self, signal: u16, name: &[u8], room: usize) -> Result<usize, Refusal>
@@ -37,6 +38,7 @@ impl Gates {
         ensures state { Starting place.old self (named signal name.now) result place.new }
         ensures refusal { refused result ≡ first_output_refusal (length place.old) self (named signal name.now) }
     {
+        // Not by `map_err`: its closure would move the writer also where the call goes on.
         let end = match self.end_of_first(signal, name, place.len()) {
             Ok(end) => end,
             Err(refusal) => return refuse(self, refusal),
@@ -85,6 +87,7 @@ impl Outputs {
         ensures refusal { (before : List ℕ) (c : Content) → HoldsOutputs before place.old self c →
             refused result ≡ output_refusal (length place.old) self (names c.outputs) (named signal name.now) }
     {
+        // Not by `map_err`: its closure would move the writer also where the call goes on.
         let end = match self.end_of_output(place, signal, name) {
             Ok(end) => end,
             Err(refusal) => return refuse(self, refusal),
