@@ -8,6 +8,7 @@ use crate::fault::Flaw;
 use crate::gate::Gate;
 use crate::record::check_gate;
 use crate::refusal::{Refusal, Refused, refuse};
+use crate::shape::{end_of_gates, signals};
 use crate::writer::bytes::gate_bytes;
 use crate::writer::{Gates, Opened, put};
 
@@ -40,8 +41,8 @@ impl Gates {
         if self.gates == 600 {
             return Err(Refusal::Wrong(Flaw::Count));
         }
-        let at = 5 + 7 * self.gates as usize;
-        check_gate(gate, self.inputs + 2 + self.gates, at)?;
+        let at = end_of_gates(self.gates);
+        check_gate(gate, signals(self.inputs, self.gates), at)?;
         if room < at + 7 {
             return Err(Refusal::Full);
         }
