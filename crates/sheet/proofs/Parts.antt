@@ -1,5 +1,5 @@
 -- The parts of a sheet without fault.
-use Rattle.std.proofs.Common.{◌≡◌, ℕ, zero, suc, ◌+◌, ◌-◌, ◌*◌, ◌<◌, ◌≤◌, List, [], ◌∷◌, ◌++◌, length, get_or, take, drop, Some, None, Option, slice_get, true, sym, refl, ap, ◌∙◌, subst, append_assoc, append-nil, arith}
+use Rattle.std.proofs.Common.{◌≡◌, ℕ, zero, suc, ◌+◌, ◌-◌, ◌*◌, ◌<◌, ◌≤◌, List, [], ◌∷◌, ◌++◌, length, get_or, take, drop, Some, None, Option, slice_get, true, sym, refl, ap, ◌∙◌, subst, append_assoc, append-nil, arith, Bor, MatchOption, IsSomeAnd}
 use Rattle.std.specs.List.{flat_map}
 use Rattle.std.proofs.lemmas.List.{drop-drop, length-append, drop_at, take_at}
 use Rattle.sheet.specs.declared.gate.Gate.{Gate}
@@ -50,19 +50,28 @@ item_at (x ∷ xs) (suc k) d h = item_at xs k d (omega arith)
 many_gates : (bs : List ℕ) (s : Shape) (c : Content) → BytesSay bs s c → s.gates ≡ length c.gates
 many_gates bs s c a = ap (λ t. t.gates) a.shape
 
-pub gate_item : (bs : List ℕ) (s : Shape) (c : Content) (k : ℕ) (g : Gate) → k < s.gates → Seven (drop (5 + 7 * k) bs) g → BytesSay bs s c → Some g ≡ item c.gates k
+gate_item : (bs : List ℕ) (s : Shape) (c : Content) (k : ℕ) (g : Gate) → k < s.gates → Seven (drop (5 + 7 * k) bs) g → BytesSay bs s c → Some g ≡ item c.gates k
 gate_item bs s c k g h sv a =
     let inside : k < length c.gates = omega (arith, many_gates bs s c a) in
     let at = at_gate bs c k g a.again inside in
     let here : Seven (gate_bytes (get_or c.gates k g) ++ at.rest) g = subst (λ l. Seven l g) at.is sv in
     ap Some (same_gate (get_or c.gates k g) g at.rest here) ∙ item_at c.gates k g inside
 
-pub gate_there : (bs : List ℕ) (s : Shape) (c : Content) (k : ℕ) → k < s.gates → length (drop (5 + 7 * k) bs) < 7 → BytesSay bs s c → ⊥
+gate_there : (bs : List ℕ) (s : Shape) (c : Content) (k : ℕ) → k < s.gates → length (drop (5 + 7 * k) bs) < 7 → BytesSay bs s c → ⊥
 gate_there bs s c k h short a =
     let d : Gate = record { kind = 0; a = 0; b = 0; c = 0 } in
     let g = at_gate bs c k d a.again (omega (arith, many_gates bs s c a)) in
     let l : 7 ≤ length (gate_bytes (get_or c.gates k d) ++ g.rest) = omega arith in
     omega (arith, ap length g.is)
+
+-- the gate at the front of the bytes from there on, if one is found there, is the gate `k`
+pub gate_found : (bs xs : List ℕ) (s : Shape) (c : Content) (k : ℕ) (found : Option (Gate × Bor (List ℕ))) (r : Option Gate) {Answers : Gate × Bor (List ℕ) → Gate → Type 0}
+    → k < s.gates → BytesSay bs s c → xs ≡ drop (5 + 7 * k) bs → ((x : Gate × Bor (List ℕ)) (g : Gate) → Answers x g → g ≡ x.0)
+    → MatchOption found (length xs < 7) (λ x. Seven xs x.0 × (x.1.now ≡ drop 7 xs))
+    → MatchOption found (r ≡ None) (λ x. IsSomeAnd r (Answers x)) → r ≡ item c.gates k
+gate_found bs xs s c k None r h a e same short m = absurd (gate_there bs s c k h (subst (λ l. length l < 7) e short) a)
+gate_found bs xs s c k (Some x) None h a e same there m = absurd m
+gate_found bs xs s c k (Some x) (Some g) h a e same there m = ap Some (same x g m) ∙ gate_item bs s c k x.0 h (subst (λ l. Seven l x.0) e there.0) a
 
 pub first_gate : (n m : ℕ) (xs : List ℕ) (g : Gate) (ys : List ℕ) → n ≡ suc m → Seven xs g → ys ≡ drop 7 xs → gates_in n xs ≡ g ∷ gates_in m ys
 first_gate n m xs g ys e s r =
@@ -100,6 +109,11 @@ outputs_back (o ∷ os) ys =
 
 pub ahead_is : (w : OutputRecords) (os : List Output) → Ahead w os → outputs_ahead w ≡ os
 ahead_is w os a = ap (λ n. outputs_in n w.rest.now) (sym a.count) ∙ ap (outputs_in (length os)) (a.is ∙ sym (append-nil _)) ∙ outputs_back os []
+
+-- where no output is to be found, none lies ahead
+pub none_ahead : (w : OutputRecords) (os : List Output) → outputs_ahead w ≡ [] → Ahead w os → (None ≡ item os 0) × Ahead w (drop 1 os)
+none_ahead w [] e a = (refl, a)
+none_ahead w (o ∷ os) e a = absurd (omega (arith, ap length (sym e ∙ ahead_is w (o ∷ os) a)))
 
 -- the record at the front of the bytes of an output is that output
 split_is : (xs : List ℕ) (o p : Output) (ys zs : List ℕ) → xs ≡ output_bytes o ++ ys → Split xs p zs → (p ≡ o) × (zs ≡ ys)

@@ -183,12 +183,12 @@ add_output place after w v o si sg so se e few before c fits h =
     }
 
 -- the flaw that was found among the bytes is the one among the names
-pub flaw_as : (before place : List ℕ) (earlier : OutputRecords) (w : Outputs) (c : Content) (signals : ℕ) (o : Output) (q : Option Flaw) → earlier.rest.now ≡ drop (outputs_start w.gates) place → earlier.left ≡ w.outputs
-    → q ≡ output_flaw signals (names (outputs_ahead earlier)) o → HoldsOutputs before place w c → output_flaw signals (names c.outputs) o ≡ q
-flaw_as before place earlier w c signals o q r l e h =
+pub flaw_as : (before place : List ℕ) (earlier : OutputRecords) (w : Outputs) (c : Content) (signals at : ℕ) (o : Output) (q : Option Flaw) → signals ≡ w.inputs + 2 + w.gates → at ≡ gates_end w.gates → earlier.rest.now ≡ drop (at + 2) place → earlier.left ≡ w.outputs
+    → q ≡ output_flaw signals (names (outputs_ahead earlier)) o → HoldsOutputs before place w c → output_flaw (w.inputs + 2 + w.gates) (names c.outputs) o ≡ q
+flaw_as before place earlier w c signals at o q s t r l e h =
     let k = held before place w c h in
-    let same : outputs_ahead earlier ≡ c.outputs = (λ i. outputs_in (l i) (r i)) ∙ k.earlier in
-    sym (e ∙ ap (λ os. output_flaw signals (names os) o) same)
+    let same : outputs_ahead earlier ≡ c.outputs = (λ i. outputs_in (l i) ((r ∙ ap (λ n. drop (n + 2) place) t) i)) ∙ k.earlier in
+    ap (λ n. output_flaw n (names c.outputs) o) (sym s) ∙ sym (e ∙ ap (λ os. output_flaw signals (names os) o) same)
 
 pub closed : (before place : List ℕ) (w : Outputs) (v : Closed) (c : Content) → v.size ≡ w.end → HoldsOutputs before place w c → HoldsSheet before place v c
 closed before place w v c b h =

@@ -6,8 +6,9 @@ ghost use Rattle.sheet.specs.Record.{Seven, GateChecked, OperandChecked, flaw_in
 
 use crate::fault::{FieldFault, Flaw};
 use crate::gate::Gate;
-use gates::{reads_b, reads_c};
+use gates::{Kind, reads_b, reads_c};
 
+// `read` is no flag on `own`: whether the kind reads the operand is a fact of the kind, `own` is one of the gate. The format's definition takes the same two.
 /// Whether an operand is below the signal of its own gate, or 0 where the gate does not read it.
 pub fn operand_fits(read: bool, own: u16, operand: u16) -> bool
     ensures { result ≡ operand_fits read own operand }
@@ -60,7 +61,7 @@ pub fn check_gate(gate: Gate, own: u16, start: usize) -> Result<(), FieldFault>
     ensures fault { GateChecked own gate start result }
     ensures flaw { flaw_in result ≡ gate_flaw own gate }
 {
-    if !(1..=9).contains(&gate.kind) {
+    if Kind::try_from(gate.kind).is_err() {
         return Err(FieldFault {
             flaw: Flaw::Kind,
             place: start,

@@ -79,8 +79,7 @@ impl<'a> Sheet<'a> {
         if k >= self.shape.gates {
             return None;
         }
-        let (gate, _) = record(bytes_from(self.bytes, 5 + 7 * k as usize))?;
-        Some(gate)
+        record(bytes_from(self.bytes, 5 + 7 * k as usize)).map(|(gate, _)| gate)
     }
 
     /// The outputs in order, each with its name as a part of the sheet.

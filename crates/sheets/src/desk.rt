@@ -92,13 +92,13 @@ impl Desk {
 
     // Reads the sheet with another byte at a place, and leaves it as it was.
     fn set(&mut self, rt: &HostRuntime, place: usize, value: u8) -> anyhow::Result<()> {
-        if place < self.sheet.len() {
-            let before = self.sheet[place];
-            self.sheet[place] = value;
-            print!(rt; "byte {place} as {value}: ")?;
-            listing::summary(rt, self.sheet.as_slice())?;
-            self.sheet[place] = before;
-        }
+        let Some(byte) = self.sheet.get_mut(place) else {
+            return Ok(());
+        };
+        let before = mem::replace(byte, value);
+        print!(rt; "byte {place} as {value}: ")?;
+        listing::summary(rt, self.sheet.as_slice())?;
+        self.sheet[place] = before;
         Ok(())
     }
 

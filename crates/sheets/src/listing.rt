@@ -1,7 +1,7 @@
 //! What a sheet says, or its fault, as lines of text.
 use sheet::{Gate, OutputRecord, Sheet};
 
-fn gate(rt: &HostRuntime, k: u16, gate: Gate) -> anyhow::Result<()> {
+fn gate(rt: &HostRuntime, k: usize, gate: Gate) -> anyhow::Result<()> {
     let Gate { kind, a, b, c } = gate;
     println!(rt; "gate {k}: {kind} {a} {b} {c}")?;
     Ok(())
@@ -21,7 +21,7 @@ pub fn list(rt: &HostRuntime, bytes: &[u8]) -> anyhow::Result<()> {
     match Sheet::read(bytes) {
         Ok(sheet) => {
             println!(rt; "inputs {}", sheet.inputs())?;
-            for (k, record) in (0..u16::MAX).zip(sheet.gate_records()) {
+            for (k, record) in sheet.gate_records().enumerate() {
                 gate(rt, k, record)?;
             }
             for record in sheet.output_records() {

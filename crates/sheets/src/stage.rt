@@ -66,6 +66,7 @@ impl<W: Into<Stage>> From<Refused<W>> for Unwritten {
     }
 }
 
+// Each step asks which state it is, by a `match`: the state is known only when the script runs.
 impl Stage {
     fn misplaced(self) -> Unwritten {
         Unwritten {

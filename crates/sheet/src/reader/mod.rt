@@ -14,5 +14,5 @@ mod gate_records;
 mod outputs;
 mod sections;
 
-pub use outputs::{has_name, visible};
+pub use outputs::name_fits;
 pub use sections::check;

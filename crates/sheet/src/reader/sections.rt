@@ -40,11 +40,11 @@ pub fn check(sheet: &[u8]) -> Result<Shape, SheetFault>
         .outputs(inputs + 2 + gates)
         .map_err(|fault| fault.in_section(Section::Outputs))?;
     if reader.place < sheet.len() {
-        return Err(SheetFault {
+        let fault = FieldFault {
             flaw: Flaw::Extra,
-            section: Section::Whole,
             place: reader.place,
-        });
+        };
+        return Err(fault.in_section(Section::Whole));
     }
     Ok(Shape {
         inputs,

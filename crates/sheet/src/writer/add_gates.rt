@@ -8,6 +8,7 @@ use crate::fault::Flaw;
 use crate::gate::Gate;
 use crate::record::check_gate;
 use crate::refusal::{Refusal, Refused, refuse};
+use crate::shape::{end_of_gates, signals};
 use crate::writer::bytes::gate_bytes;
 use crate::writer::{Gates, Opened, put};
 
@@ -40,8 +41,8 @@ impl Gates {
         if self.gates == 600 {
             return Err(Refusal::Wrong(Flaw::Count));
         }
-        let at = 5 + 7 * self.gates as usize;
-        check_gate(gate, self.inputs + 2 + self.gates, at)?;
+        let at = end_of_gates(self.gates);
+        check_gate(gate, signals(self.inputs, self.gates), at)?;
         if room < at + 7 {
             return Err(Refusal::Full);
         }
@@ -53,6 +54,7 @@ impl Gates {
         ensures state { AddingGate place.old self gate result place.new }
         ensures refusal { refused result ≡ gate_refusal (length place.old) self gate }
     {
+        // Not by `map_err`: its closure would move the writer also where the call goes on.
         let at = match self.place_of_gate(gate, place.len()) {
             Ok(at) => at,
             Err(refusal) => return refuse(self, refusal),

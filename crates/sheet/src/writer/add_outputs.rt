@@ -9,9 +9,11 @@ use crate::fault::Flaw;
 use crate::output::bytes_from;
 use crate::output_records::OutputRecords;
 use crate::refusal::{Refusal, Refused, refuse};
+use crate::shape::{end_of_gates, signals};
 use crate::writer::names::check_output;
 use crate::writer::{Gates, Outputs, put};
 
+// The calls of `Gates` and of `Outputs` are not one: they start at different places and after different earlier names, and promise so.
 impl Gates {
     /// Where the first output ends in a place of `room` bytes, or why it is not written.
     fn end_of_first(&self, signal: u16, name: &[u8], room: usize) -> Result<usize, Refusal>
@@ -19,8 +21,8 @@ impl Gates {
         ensures refusal { found result ≡ first_output_refusal room self.now (named signal name.now) }
     {
         let earlier = OutputRecords::new(&[], 0);
-        check_output(signal, name, self.inputs + 2 + self.gates, earlier)?;
-        let end = 5 + 7 * self.gates as usize + 5 + name.len();
+        check_output(signal, name, signals(self.inputs, self.gates), earlier)?;
+        let end = end_of_gates(self.gates) + 5 + name.len();
         if room < end {
             return Err(Refusal::Full);
         }
@@ -37,12 +39,13 @@ impl Gates {
         ensures state { Starting place.old self (named signal name.now) result place.new }
         ensures refusal { refused result ≡ first_output_refusal (length place.old) self (named signal name.now) }
     {
+        // Not by `map_err`: its closure would move the writer also where the call goes on.
         let end = match self.end_of_first(signal, name, place.len()) {
             Ok(end) => end,
             Err(refusal) => return refuse(self, refusal),
         };
         let Gates { inputs, gates } = self;
-        let at = 5 + 7 * gates as usize;
+        let at = end_of_gates(gates);
         put(place, at, &1u16.to_be_bytes());
         put_output(place, at + 2, signal, name);
         Ok(Outputs {
@@ -64,9 +67,9 @@ impl Outputs {
         if self.outputs == 256 {
             return Err(Refusal::Wrong(Flaw::Count));
         }
-        let records = bytes_from(place, 5 + 7 * self.gates as usize + 2);
+        let records = bytes_from(place, end_of_gates(self.gates) + 2);
         let earlier = OutputRecords::new(records, self.outputs);
-        check_output(signal, name, self.inputs + 2 + self.gates, earlier)?;
+        check_output(signal, name, signals(self.inputs, self.gates), earlier)?;
         let end = self.end + 3 + name.len();
         if place.len() < end {
             return Err(Refusal::Full);
@@ -85,6 +88,7 @@ impl Outputs {
         ensures refusal { (before : List ℕ) (c : Content) → HoldsOutputs before place.old self c →
             refused result ≡ output_refusal (length place.old) self (names c.outputs) (named signal name.now) }
     {
+        // Not by `map_err`: its closure would move the writer also where the call goes on.
         let end = match self.end_of_output(place, signal, name) {
             Ok(end) => end,
             Err(refusal) => return refuse(self, refusal),
@@ -96,7 +100,7 @@ impl Outputs {
             end: before,
         } = self;
         put_output(place, before, signal, name);
-        put(place, 5 + 7 * gates as usize, &(outputs + 1).to_be_bytes());
+        put(place, end_of_gates(gates), &(outputs + 1).to_be_bytes());
         Ok(Outputs {
             inputs,
             gates,

@@ -8,6 +8,7 @@ use crate::refusal::{Refusal, Refused, refuse};
 use crate::sheet::Sheet;
 use crate::writer::{Closed, Gates, Opened, Outputs};
 
+// `close` stands in two states, and not in a trait: every caller would have to import the trait for one line.
 impl Opened {
     /// Refuses: the sheet has no outputs.
     pub fn close(self, _place: &[u8]) -> Result<Closed, Refused<Opened>>

@@ -8,7 +8,7 @@ ghost use Rattle.sheet.specs.Written.{named};
 
 use crate::fault::Flaw;
 use crate::output_records::OutputRecords;
-use crate::reader::{has_name, visible};
+use crate::reader::name_fits;
 
 /// Finds what is wrong with an output, after earlier ones.
 pub fn check_output(
@@ -26,7 +26,7 @@ pub fn check_output(
     if !(1..=16).contains(&name.len()) {
         return Err(Flaw::Name);
     }
-    if visible(name) && !has_name(earlier, name) {
+    if name_fits(name, earlier) {
         Ok(())
     } else {
         Err(Flaw::Name)

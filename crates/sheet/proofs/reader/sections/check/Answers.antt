@@ -12,13 +12,13 @@ overflow_add-inputs-2 c =
     omega arith
 
 pub returns-then-reader-sheet : goal.returns-then-reader-sheet
-returns-then-reader-sheet c = more_left c.args.sheet.now c.in_ok-inputs.inputs c.in_ok-gates.gates c.in_ok-outputs.outputs c.outputs.new.self
+returns-then-reader-sheet c = rw c.in_section.ensures (more_left c.args.sheet.now c.in_ok-inputs.inputs c.in_ok-gates.gates c.in_ok-outputs.outputs c.outputs.new.self
     (read_all _ c.byte_within.new.self c.number_within.new.self c.gates.new.self c.outputs.new.self c.in_ok-map_err.field-0 c.in_ok-inputs.inputs c.in_ok-gates.gates c.in_ok-outputs.outputs refl
     (at_ok (λ x. x) edition _ c.byte_within.new.self c.byte_within.result c.in_ok-map_err.field-0 c.byte_within.ensures c.in_ok-map_err.ensures.cases)
     (at_ok (λ x. x) input_section c.byte_within.new.self c.number_within.new.self c.number_within.result c.in_ok-inputs.inputs c.number_within.ensures c.in_ok-inputs.ensures.cases)
     (at_ok (λ x. x) (λ xs. counted (gate_section c.in_ok-inputs.inputs xs)) c.number_within.new.self c.gates.new.self c.gates.result c.in_ok-gates.gates c.gates.ensures c.in_ok-gates.ensures.cases)
     (at_ok (λ x. x) (λ xs. counted (output_section (c.in_ok-inputs.inputs + 2 + c.in_ok-gates.gates) xs)) c.gates.new.self c.outputs.new.self c.outputs.result c.in_ok-outputs.outputs c.outputs.ensures c.in_ok-outputs.ensures.cases))
-    c.if-reader-sheet.true
+    c.if-reader-sheet.true)
 
 pub returns : goal.returns
 returns c = all_read c.args.sheet.now c.in_ok-inputs.inputs c.in_ok-gates.gates c.in_ok-outputs.outputs c.outputs.new.self (λ k. (c.type_inv.sheet k).fits)

@@ -11,7 +11,7 @@ returns-clause-state c =
     let o : Output = named c.args.signal c.args.name.now in
     let at : ℕ = gates_end c.args.self.gates in
     let wrote : c.put_output.new.place ≡ put (put c.args.place.now at (number_bytes 1)) (at + 2) (output_bytes o) =
-    c.put_output.ensures ∙ ap (λ l. put l (at + 2) (output_bytes o)) (c.put.ensures ∙ ap (put c.args.place.now at) (c.to_be_bytes.ensures ∙ two_bytes 1 (omega arith))) in
+    c.put_output.ensures ∙ (λ i. put ((c.put.ensures ∙ (λ j. put c.args.place.now (c.end_of_gates-at.ensures j) ((c.to_be_bytes.ensures ∙ two_bytes 1 (omega arith)) j))) i) (c.end_of_gates-at.ensures i + 2) (output_bytes o)) in
     record {
       inputs = refl;
       gates = refl;

@@ -12,7 +12,7 @@ returns-clause-state c =
     let o : Output = named c.args.signal c.args.name.now in
     let at : ℕ = gates_end c.args.self.gates in
     let wrote : c.put.new.place ≡ put (put c.args.place.now c.args.self.end (output_bytes o)) at (number_bytes (c.args.self.outputs + 1)) =
-    c.put.ensures ∙ (λ i. put (c.put_output.ensures i) at ((c.to_be_bytes.ensures ∙ two_bytes (c.args.self.outputs + 1) (omega arith)) i)) in
+    c.put.ensures ∙ (λ i. put (c.put_output.ensures i) (c.end_of_gates.ensures i) ((c.to_be_bytes.ensures ∙ two_bytes (c.args.self.outputs + 1) (omega arith)) i)) in
     record {
       inputs = refl;
       gates = refl;
