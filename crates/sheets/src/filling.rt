@@ -11,6 +11,7 @@ pub struct Measures {
     pub length: u16,
 }
 
+// The kind stands by its number: a constant's value may call no function, so no `u8::from` of a kind.
 /// The AND of the first two inputs.
 const AND: Gate = Gate {
     kind: 1,
