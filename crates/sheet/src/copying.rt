@@ -26,9 +26,9 @@ fn copy_outputs(sheet: &Sheet, writer: Gates, place: &mut [u8]) -> Result<Output
     let Some(first) = records.next() else {
         unreachable!()
     };
-    let mut writer = writer.output(place, first.signal, first.name)?;
+    let mut writer = writer.output(place, first)?;
     for next in records {
-        writer = writer.output(place, next.signal, next.name)?;
+        writer = writer.output(place, next)?;
     }
     Ok(writer)
 }

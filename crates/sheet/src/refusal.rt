@@ -91,6 +91,7 @@ mod tests {
     use super::*;
     use crate::fault::{Section, SheetFault};
     use crate::gate::Gate;
+    use crate::output::OutputRecord;
     use crate::writer::{Gates, Opened};
     use std::test::Fail;
 
@@ -133,8 +134,12 @@ mod tests {
             return Err(Fail::from("not refused"));
         };
         assert_eq!(rt; refusal, Refusal::Wrong(Flaw::Kind));
+        let q = OutputRecord {
+            signal: 2,
+            name: b"q",
+        };
         let closed = writer
-            .output(&mut place, 2, b"q")
+            .output(&mut place, q)
             .ok()
             .ok_or("no output")?
             .close(&place)

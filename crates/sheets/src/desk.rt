@@ -5,7 +5,7 @@ use crate::listing;
 use crate::stage::{Stage, Unwritten};
 use hex::FromHexError;
 use sheet::writer::{Closed, Opened};
-use sheet::{Sheet, copy};
+use sheet::{OutputRecord, Sheet, copy};
 use std::mem;
 
 /// The place of the sheet that is written, its writer, and the bytes of the last sheet.
@@ -120,7 +120,13 @@ impl Desk {
             Line::Inputs(count) => self.step(rt, |stage, place| stage.inputs(place, count)),
             Line::Gate(gate) => self.step(rt, |stage, place| stage.gate(place, gate)),
             Line::Output(signal, name) => self.step(rt, |stage, place| {
-                stage.output(place, signal, name.as_bytes())
+                stage.output(
+                    place,
+                    OutputRecord {
+                        signal,
+                        name: name.as_bytes(),
+                    },
+                )
             }),
             Line::Close => self.step(rt, |stage, place| stage.close(place)),
             Line::Full(measures) => self.full(rt, measures),

@@ -1,6 +1,6 @@
 //! Sheets of any size: AND gates of the first two inputs, and numbered names of one length.
 use sheet::writer::{Closed, Gates, Opened, Outputs};
-use sheet::{Gate, Refusal};
+use sheet::{Gate, OutputRecord, Refusal};
 
 /// How many of each a sheet is to have, and how long its names are.
 #[derive(Clone, Copy)]
@@ -43,7 +43,7 @@ fn fill_outputs(
 ) -> Result<Outputs, Refusal> {
     for k in 1..count {
         number_name(name, k);
-        writer = writer.output(place, 2, name)?;
+        writer = writer.output(place, OutputRecord { signal: 2, name })?;
     }
     Ok(writer)
 }
@@ -53,7 +53,7 @@ pub fn fill(place: &mut [u8], name: &mut [u8], measures: Measures) -> Result<Clo
     let writer = Opened.inputs(place, measures.inputs)?;
     let writer = fill_gates(writer, place, measures.gates)?;
     number_name(name, 0);
-    let writer = writer.output(place, 2, name)?;
+    let writer = writer.output(place, OutputRecord { signal: 2, name })?;
     let writer = fill_outputs(writer, place, name, measures.outputs)?;
     Ok(writer.close(place)?)
 }

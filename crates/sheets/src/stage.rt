@@ -1,6 +1,6 @@
 //! The writer of a script, whichever state it is in.
 use sheet::writer::{Closed, Gates, Opened, Outputs};
-use sheet::{Gate, Refusal, Refused};
+use sheet::{Gate, OutputRecord, Refusal, Refused};
 use std::fmt;
 
 /// A writer's state.
@@ -92,10 +92,10 @@ impl Stage {
     }
 
     /// Writes an output.
-    pub fn output(self, place: &mut [u8], signal: u16, name: &[u8]) -> Result<Stage, Unwritten> {
+    pub fn output(self, place: &mut [u8], output: OutputRecord) -> Result<Stage, Unwritten> {
         match self {
-            Stage::Gates(writer) => Ok(Stage::Outputs(writer.output(place, signal, name)?)),
-            Stage::Outputs(writer) => Ok(Stage::Outputs(writer.output(place, signal, name)?)),
+            Stage::Gates(writer) => Ok(Stage::Outputs(writer.output(place, output)?)),
+            Stage::Outputs(writer) => Ok(Stage::Outputs(writer.output(place, output)?)),
             other => Err(other.misplaced()),
         }
     }
