@@ -1,5 +1,5 @@
 -- What is left to show of `writer::Gates::output`, beyond what the search finds.
-use Rattle.std.proofs.Common.{◌≡◌, ℕ, ◌+◌, refl, ap, ◌∙◌, arith}
+use Rattle.std.proofs.Common.{◌≡◌, ℕ, ◌+◌, refl, ◌∙◌, arith}
 use Rattle.sheet.specs.Format.{output_bytes, number_bytes, Output}
 use Rattle.sheet.specs.Written.{put, gates_end}
 use Rattle.sheet.specs.Names.{output_of}

@@ -1,6 +1,6 @@
 -- What is left to show of `writer::Outputs::end_of_output`, beyond what the search finds.
 use Rattle.std.proofs.lemmas.Result.{err_from_is_err_and}
-use Rattle.std.proofs.Common.{◌+◌, length, Some, None, arith, ◌∙◌}
+use Rattle.std.proofs.Common.{length, Some, None, arith, ◌∙◌}
 use Rattle.sheet.specs.Format.{names}
 use Rattle.sheet.specs.Names.{output_of}
 use Rattle.sheet.proofs.Writing.{flaw_as}
