@@ -33,6 +33,7 @@ pub enum Refusal {
 
 impl Refusal {
     /// The number by which the refusal is known.
+    // A method and no `From`, beside `words`: the two are what a refusal says of itself.
     pub fn number(self) -> u8
         ensures { result ≡ number_of self }
     {

@@ -24,6 +24,7 @@ pub fn operand_flaw(read: bool) -> Flaw
 }
 
 /// Finds whether the operand at a place is wrong.
+// `Reader::operand` reads a field and judges it; here the record is read already, and only the judging is left.
 fn check_operand(read: bool, own: u16, operand: u16, place: usize) -> Result<(), FieldFault>
     ensures { OperandChecked read own operand place result }
 {

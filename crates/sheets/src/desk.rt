@@ -42,6 +42,7 @@ impl Desk {
         F: FnOnce(Stage, &mut [u8]) -> Result<Stage, Unwritten>,
         requires { F.IsAlwaysCallable step }
     {
+        // The writer is moved through the step; until it is back, an opened one stands in its place.
         let stage = mem::replace(&mut self.stage, Stage::Opened(Opened));
         match step(stage, self.place.as_mut_slice()) {
             Ok(Stage::Closed(sheet)) => {

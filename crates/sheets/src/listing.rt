@@ -34,6 +34,7 @@ pub fn list(rt: &HostRuntime, bytes: &[u8]) -> anyhow::Result<()> {
 }
 
 /// Reads some bytes and prints how many of each they have, or their fault.
+// `list` and this both read first, and differ in all that they do with a sheet: a shared read would only hand it on.
 pub fn summary(rt: &HostRuntime, bytes: &[u8]) -> anyhow::Result<()> {
     match Sheet::read(bytes) {
         Ok(sheet) => println!(rt;

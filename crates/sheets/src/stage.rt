@@ -50,6 +50,7 @@ impl fmt::Display for Mistake {
 }
 
 /// A mistake, and the stage as it was before it.
+// `Refused` has one state and a refusal; a script's writer is in any state, and has one reason more.
 #[derive(Drop)]
 pub struct Unwritten {
     pub stage: Stage,

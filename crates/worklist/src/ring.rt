@@ -49,6 +49,7 @@ impl<T: Copy> WorkList<T> for Ring {
         if self.count == slots.len() {
             return Err(Full);
         }
+        // Round the end, here by any number of slots and in `take` by one, which needs no sum.
         let to_end = slots.len() - self.first;
         if self.count < to_end {
             slots[self.first + self.count] = item;

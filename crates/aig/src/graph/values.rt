@@ -9,6 +9,7 @@ use crate::values::net_bit;
 
 impl Graph {
     /// The value of a net under a code, with a word of workspace for each vertex in use.
+    // `enough` is a relation of the graph and of words that are lent for this call, so no type of either holds it.
     pub fn value(&self, net: Net, code: u64, words: &mut [u64]) -> bool
         requires inside { InUse self.now net }
         requires enough { used self.now ≤ length words.old }

@@ -33,6 +33,7 @@ impl Table {
         if f == FALSE || g == FALSE || f == inverse(g) {
             return Some(FALSE);
         }
+        // The two edges become a pair where it is looked up, past the cases that need no look.
         let pair = Pair { f, g };
         if let Some(result) = self.cache.recall(pair) {
             return Some(result);
@@ -50,7 +51,8 @@ impl Table {
     }
 
     // The same, where a new node and what is wanting are said in terms of the function. The clauses follow from those of
-    // `conjoin`, and stand apart so that not each of its returns has to prove them too.
+    // `conjoin`, and stand apart so that not each of its returns has to prove them too. `still` and `extends` are two,
+    // since `map_diagram` promises the second alone.
     pub(super) fn meet(&mut self, f: Edge, g: Edge) -> Option<Edge>
         requires f_within { Within (nodes_of self.old) f }
         requires g_within { Within (nodes_of self.old) g }
@@ -68,6 +70,7 @@ impl Table {
         requires g_within { Within (nodes_of self.old) g }
         ensures { MatchOption result (Refused self.old self.new (conj (nodes_of self.old) f g)) (λ e. Built self.old self.new (conj (nodes_of self.old) f g) e) }
     {
+        // The cut stands here and in `compose`: this step answers an edge, and that one nothing.
         let mark = self.len();
         let result = self.conjoin(f, g);
         if result.is_none() {

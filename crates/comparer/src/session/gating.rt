@@ -15,7 +15,7 @@ impl Session {
         ensures { Gated self.old kind a b c result self.new }
     {
         let known = Kind::try_from(kind)?;
-        self.check_operand(true, a)?;
+        self.check_in_use(a)?;
         self.check_operand(known.reads_b(), b)?;
         self.check_operand(known.reads_c(), c)?;
         if self.graph.used() + 3 > self.graph.places() {
@@ -25,6 +25,7 @@ impl Session {
     }
 
     /// Whether an operand may stand where the gate reads it, or does not.
+    // `read` is a fact of the kind, and the net is looked at either way, so neither is a flag on the other.
     fn check_operand(&self, read: bool, net: Net) -> Result<(), Refusal>
         ensures { Passed (operand_check self.now read net.0) result }
     {

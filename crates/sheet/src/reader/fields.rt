@@ -12,6 +12,7 @@ use crate::record::{operand_fits, operand_flaw};
 
 impl<'a> Reader<'a> {
     /// So many bytes.
+    // By the place and not by the bytes that are left: faults and contracts count from the sheet's first byte.
     pub fn part(&mut self, count: usize) -> Result<&'a [u8], FieldFault>
         ensures { PartStep (some_bytes count) self.old result self.new }
     {

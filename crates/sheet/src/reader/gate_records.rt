@@ -14,6 +14,7 @@ impl<'a> Reader<'a> {
     pub fn gate_by_fields(&mut self, own: u16) -> Result<Gate, FieldFault>
         ensures { Step (a_gate own) self.old result self.new }
     {
+        // The kind stays a number, as in the record that it goes to.
         let kind = self.byte_within(1, 9, Flaw::Kind)?;
         let a = self.operand(true, own)?;
         let b = self.operand(reads_b(kind), own)?;

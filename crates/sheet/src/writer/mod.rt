@@ -18,6 +18,7 @@ pub struct Gates {
 }
 
 /// A sheet whose gates are written, and so many outputs, at least one; `end` is where its bytes end.
+// What `Gates` has stands here again: a state is plain numbers, and holds no other state.
 #[derive(Drop, PartialEq, Eq, Debug)]
 pub struct Outputs {
     inputs: u16,
