@@ -68,22 +68,14 @@ impl<'a> Reader<'a> {
     pub fn byte_within(&mut self, low: u8, high: u8, flaw: Flaw) -> Result<u8, FieldFault>
         ensures { Step (judged a_byte (between low high) flaw) self.old result self.new }
     {
-        self.judged(
-            |reader| reader.byte(),
-            |byte| (low..=high).contains(byte),
-            flaw,
-        )
+        self.judged(Reader::byte, |byte| (low..=high).contains(byte), flaw)
     }
 
     /// A number, which has to be in a range.
     pub fn number_within(&mut self, low: u16, high: u16, flaw: Flaw) -> Result<u16, FieldFault>
         ensures { Step (judged a_number (between low high) flaw) self.old result self.new }
     {
-        self.judged(
-            |reader| reader.number(),
-            |number| (low..=high).contains(number),
-            flaw,
-        )
+        self.judged(Reader::number, |number| (low..=high).contains(number), flaw)
     }
 
     /// An operand of the gate whose signal is `own`, or 0 where the gate does not read it.
@@ -91,7 +83,7 @@ impl<'a> Reader<'a> {
         ensures { Step (an_operand read own) self.old result self.new }
     {
         self.judged(
-            |reader| reader.number(),
+            Reader::number,
             |operand| operand_fits(read, own, *operand),
             operand_flaw(read),
         )
