@@ -56,10 +56,9 @@ pub fn record(bytes: &[u8]) -> Option<(Gate, &[u8])>
     ))
 }
 
-/// Finds the first fault of a gate record that starts at a place.
+/// Finds the first fault of a gate record that starts at a place. No sheet is so long that its places would not fit.
 pub fn check_gate(gate: Gate, own: u16, start: usize) -> Result<(), FieldFault>
-    requires { start + 5 < 2 ^ 64 }
-    ensures fault { GateChecked own gate start result }
+    ensures fault { start + 5 < 2 ^ 64 → GateChecked own gate start result }
     ensures flaw { flaw_in result ≡ gate_flaw own gate }
 {
     if Kind::try_from(gate.kind).is_err() {
@@ -68,7 +67,7 @@ pub fn check_gate(gate: Gate, own: u16, start: usize) -> Result<(), FieldFault>
             place: start,
         });
     }
-    check_operand(true, own, gate.a, start + 1)?;
-    check_operand(reads_b(gate.kind), own, gate.b, start + 3)?;
-    check_operand(reads_c(gate.kind), own, gate.c, start + 5)
+    check_operand(true, own, gate.a, start.saturating_add(1))?;
+    check_operand(reads_b(gate.kind), own, gate.b, start.saturating_add(3))?;
+    check_operand(reads_c(gate.kind), own, gate.c, start.saturating_add(5))
 }

@@ -45,7 +45,7 @@ impl<'a> Reader<'a> {
     }
 
     /// What a field gives, if it passes a test; else the flaw, at the place where the field starts.
-    pub fn judged<T, F, P>(&mut self, field: F, fits: P, flaw: Flaw) -> Result<T, FieldFault>
+    fn judged<T, F, P>(&mut self, field: F, fits: P, flaw: Flaw) -> Result<T, FieldFault>
     where
         T: Drop,
         F: FnOnce(&mut Reader<'a>) -> Result<T, FieldFault>,

@@ -8,9 +8,9 @@ use crate::fault::Flaw;
 use crate::gate::Gate;
 use crate::record::check_gate;
 use crate::refusal::{Refusal, Refused, refuse};
-use crate::shape::{end_of_gates, signals};
+use crate::shape::end_of_gates;
 use crate::writer::bytes::gate_bytes;
-use crate::writer::{Gates, Opened, put};
+use crate::writer::{Gates, Opened, put, signals};
 
 impl Opened {
     /// Writes the number of inputs.

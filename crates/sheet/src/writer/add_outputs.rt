@@ -10,9 +10,9 @@ use crate::fault::Flaw;
 use crate::output::{OutputRecord, bytes_from};
 use crate::output_records::OutputRecords;
 use crate::refusal::{Refusal, Refused, refuse};
-use crate::shape::{end_of_gates, signals};
+use crate::shape::end_of_gates;
 use crate::writer::names::check_output;
-use crate::writer::{Gates, Outputs, put};
+use crate::writer::{Gates, Outputs, put, signals};
 
 // The calls of `Gates` and of `Outputs` are not one: they start at different places and after different earlier names, and promise so.
 impl Gates {

@@ -51,3 +51,12 @@ fn put(place: &mut [u8], at: usize, bytes: &[u8])
 {
     place[at..at + bytes.len()].copy_from_slice(bytes);
 }
+
+/// How many signals there are, by the inputs and gates: the two constants are signals too.
+fn signals(inputs: u16, gates: u16) -> u16
+    requires inputs { inputs ≤ 64 }
+    requires gates { gates ≤ 600 }
+    ensures { result ≡ inputs + 2 + gates }
+{
+    inputs + 2 + gates
+}

@@ -51,7 +51,7 @@ step_of c marked φ s =
     record {
       at = c.loop-i.i;
       before = lt;
-      of_diagram = inv.marks.part c.loop-i.i lt (sym (read c) ∙ marked);
+      of_diagram = inv.marks.part (c.loop-i.i) lt (sym (read c) ∙ marked);
       is = step_kept (nodes_of t) (nodes_of c.loop-i.self) c.args.change.var c.args.change.by c.loop-i.i t.set.good inv.extends.grown c.requires.g_within (omega (arith, c.requires.f_within)) φ s;
     }
 
