@@ -2,6 +2,7 @@
 ghost use Rattle.std.specs.Prelude.{◌≡◌, length, take, Err};
 ghost use Rattle.sheet.specs.Closing.{Closing, ReadsBack};
 ghost use Rattle.sheet.specs.Refusals.{refused, close_refusal, without_outputs};
+ghost use Rattle.sheet.specs.Sections.{Reads};
 
 use crate::fault::{Flaw, SheetFault};
 use crate::refusal::{Refusal, Refused, refuse};
@@ -61,9 +62,10 @@ impl Closed {
         place.get(..self.size).unwrap_or(place)
     }
 
-    /// Reads the sheet back: it says what the writer was given.
+    /// Reads the sheet back: it says what the writer was given. Of any other place, reads its front.
     pub fn read_back(self, place: &[u8]) -> Result<Sheet<'_>, SheetFault>
-        ensures { ReadsBack place.now self result }
+        ensures back { ReadsBack place.now self result }
+        ensures reads { Reads (take self.size place.now) result }
     {
         Sheet::read(self.bytes(place))
     }
