@@ -50,20 +50,18 @@ impl Table<'_> {
 
     /// The net that is the AND of a pair: in turn, what a constant, two equal nets or two inverse nets fold to, and the net
     /// of the standing vertex that has the pair. None where the AND needs a new vertex.
-    // The arms stand in the order in which they are tried, the search as one of them. A guard binds no name, so the search
-    // is made before the `match`.
+    // The arms stand in the order in which they are tried, the search as one of them: it is made where no fold answers.
     pub fn lookup(self, pair: Pair) -> Option<Net>
         ensures { MatchOption result
             (Unknown self.entry.inputs self.entry.vertices.now pair.low.0 pair.high.0)
             (λ net. Known self.entry.inputs self.entry.vertices.now pair.low.0 pair.high.0 net.0) }
     {
-        let found = self.find(pair);
         match (pair.low, pair.high) {
             (Net::FALSE, _) => Some(Net::FALSE),
             (Net::TRUE, high) => Some(high),
             (low, high) if low == high => Some(low),
             (low, high) if high == low.inverse() => Some(Net::FALSE),
-            _ if found.is_some() => found,
+            _ if let Some(net) = self.find(pair) => Some(net),
             _ => None,
         }
     }

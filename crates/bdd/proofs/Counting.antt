@@ -1,10 +1,10 @@
 -- The nodes of a good table are no more than the parts of the functions that they are parts of.
-use Rattle.std.proofs.Common.{◌≡◌, ℕ, suc, ◌+◌, ◌*◌, ◌/◌, ◌<◌, ◌≤◌, Bool, true, false, cond, not, ltb, ◌⊎◌, List, [], ◌∷◌, ◌++◌, length, sym, ap, ◌∙◌, subst, inl, inr, ⊎_elim, arith, length-append}
+use Rattle.std.proofs.Common.{◌≡◌, ℕ, suc, ◌+◌, ◌*◌, ◌/◌, ◌<◌, ◌≤◌, Bool, true, false, cond, not, ◌&&◌, ltb, ◌⊎◌, List, [], ◌∷◌, ◌++◌, length, sym, ap, ◌∙◌, subst, ap₂, inl, inr, ⊎_elim, arith, length-append}
 use mathlib.Core.Path.{fun_ext}
 use Rattle.std.proofs.lemmas.Bool.{cases_Bool, cases_lt, cases_eq, cases_order}
 use Rattle.bdd.specs.declared.store.nodes.Node.{Node}
-use Rattle.bdd.specs.Diagram.{child, node_at, flip, turned, inverted, eval, var_at, top, Good, Same, Grown}
-use Rattle.bdd.specs.Parts.{fixed, PartOf}
+use Rattle.bdd.specs.Diagram.{child, node_at, flip, turned, inverted, eval, var_at, top, Within, Good, Same, Grown}
+use Rattle.bdd.specs.Parts.{fixed, PartOf, conj}
 use Rattle.bdd.specs.Size.{Fn, same, opposite, parts, table, all_parts, In, Ascending, Only}
 use Rattle.bdd.specs.Laws.{Held, Inputs, Fitting, TooMany}
 use Rattle.bdd.proofs.Growth.{part_kept}
@@ -142,6 +142,13 @@ pub held_kept : (ns os : List Node) (vs : List ℕ) (i : ℕ) (φs : List ((ℕ 
 held_kept ns os vs i [] good grown h k = k
 held_kept ns os vs i (φ ∷ φs) good grown h (inl q) = inl (q.0, part_kept ns os φ i good grown h q.1)
 held_kept ns os vs i (φ ∷ φs) good grown h (inr k) = inr (held_kept ns os vs i φs good grown h k)
+
+-- a conjunction looks at no input but those of the table, as whoever asks whether there was room for it has to show
+pub only_conj : (ns : List Node) (vs : List ℕ) (f g : ℕ) → Good ns → Inputs ns vs → Within ns f → Within ns g → Only vs (conj ns f g)
+only_conj ns vs f g good vars inf ing ρ ρ' agree =
+    ap₂ ◌&&◌
+    (eval_only ns ρ ρ' 0 f good (λ i h le. agree (node_at ns i).var (vars i h)) inf (omega arith))
+    (eval_only ns ρ ρ' 0 g good (λ i h le. agree (node_at ns i).var (vars i h)) ing (omega arith))
 
 in_or_not : (w : ℕ) (vs : List ℕ) → In w vs ⊎ (In w vs → ⊥)
 in_or_not w [] = inr (λ h. h)

@@ -164,16 +164,20 @@ fn mixed<W: WorkList<Propagation> + Drop, F: Fn(&[Propagation]) -> Option<Propag
     Ok(trial.tally)
 }
 
-/// Items to pass through a list.
-fn items(seed: u64) -> [Propagation; PASSED] {
+/// Makes the items that are passed through a list.
+// In their place: an array that is handed out lay on the stack once more.
+fn make(items: &mut [Propagation; PASSED], seed: u64) {
     let mut numbers = Generator::new(seed);
-    std::array::from_fn(|_| numbers.item())
+    for item in items.iter_mut() {
+        *item = numbers.item();
+    }
 }
 
 /// How many items are less than the one before them, after a pass through a heap.
 fn descents() -> usize {
     let mut slots = [Propagation::default(); PASSED];
-    let mut items = items(11);
+    let mut items = [Propagation::default(); PASSED];
+    make(&mut items, 11);
     through_heap(&mut slots, &mut items);
     items.windows(2).filter(|pair| pair[1] < pair[0]).count()
 }
@@ -181,7 +185,8 @@ fn descents() -> usize {
 /// How many items are not where they were, after a pass through a ring.
 fn displaced() -> usize {
     let mut slots = [Propagation::default(); PASSED];
-    let before = items(13);
+    let mut before = [Propagation::default(); PASSED];
+    make(&mut before, 13);
     let mut after = before;
     through_ring(&mut slots, &mut after);
     before

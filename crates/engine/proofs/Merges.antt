@@ -8,12 +8,24 @@ use Rattle.aig.specs.Graphs.{inputs_of, vertices, used}
 use Rattle.aig.specs.declared.graph.Graph.{Graph}
 use Rattle.aig.proofs.Graphs.{whole_of}
 use Rattle.aig.proofs.Wholes.{shape_of}
-use Rattle.aig.proofs.Merging.{link_low, composed_more}
+use Rattle.aig.proofs.Merging.{link_low, composed_none, composed_more}
 use Rattle.engine.specs.Questions.{functions_of, question}
 use Rattle.engine.specs.Merging.{function_in, OnlyMerged}
 
 pub low_links : (g : Graph) → (v : ℕ) → v < used g → link_of (vertices g) v / 2 ≤ v
 low_links g = link_low (shape_of (whole_of g))
+
+-- a graph that is left alone
+pub unmerged : (g : Graph) → OnlyMerged g g
+unmerged g = record {
+  inputs = refl;
+  places = refl;
+  number = refl;
+  functions = λ code v h. refl;
+  falls = λ v h s. s;
+  composed = composed_none (shape_of (whole_of g));
+  alike = λ code v h. (whole_of g).equal code v h;
+}
 
 module _ (g h : Graph) (m : OnlyMerged g h) where
   pub same_value : (x : ℕ) → x / 2 < used g → (code : ℕ) → value (inputs_of h) (vertices h) x code ≡ value (inputs_of g) (vertices g) x code
@@ -27,6 +39,9 @@ module _ (g h : Graph) (m : OnlyMerged g h) where
       go : (x : Bool) → ltb v (used g) ≡ x → cond x (function_in h code v) false ≡ cond x (function_in g code v) false
       go true e = m.functions code v (ltb-true v (used g) e)
       go false e = refl
+
+  pub still_used : (x : ℕ) → x / 2 < used g → x / 2 < used h
+  still_used x u = omega (arith, m.number)
 
   -- equal questions are equal
   pub same_question : (a b limit nodes : ℕ) → a / 2 < used g → b / 2 < used g

@@ -25,10 +25,17 @@ A script has a call a line; what follows a # is a comment.
 Net 2v is vertex v, and net 2v + 1 its inverse; vertex 0 is false, and vertex i + 1 is input i.";
 
 fn replay<R: Read + Drop>(rt: HostRuntime, input: R) -> io::Result<()> {
-    let lines = BufReader::new(rt.alloc(), input)?.lines(rt.alloc());
+    let mut reader = BufReader::new(rt.alloc(), input)?;
+    let mut line = String::new(rt.alloc());
     let mut replay = Replay::new(rt.alloc())?;
-    for (number, line) in (1..u64::MAX).zip(lines) {
-        replay.line(rt, number, line?.as_str())?;
+    // One string for all lines, and no iterator of lines: that makes a string for each, and while one grows beside the freed one,
+    // two long lines took twice the memory.
+    for number in 1..u64::MAX {
+        line.clear();
+        if reader.read_line(&mut line)? == 0 {
+            break;
+        }
+        replay.line(rt, number, line.as_str())?;
     }
     Ok(())
 }

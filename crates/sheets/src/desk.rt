@@ -3,9 +3,9 @@ use crate::filling::{Measures, fill};
 use crate::line::Line;
 use crate::listing;
 use crate::stage::{Stage, Unwritten};
-use hex::FromHexError;
 use sheet::writer::{Closed, Opened};
 use sheet::{OutputRecord, Sheet, copy};
+use std::alloc::AllocError;
 use std::mem;
 
 /// The place of the sheet that is written, its writer, and the bytes of the last sheet.
@@ -159,14 +159,21 @@ fn copied(rt: &HostRuntime, bytes: &[u8], place: &mut [u8]) -> anyhow::Result<()
 }
 
 fn read(rt: &HostRuntime, digits: &str) -> anyhow::Result<()> {
+    // Judged first: `decode` makes room for the bytes before it looks at a digit, and a refused line is to want no memory.
+    if !is_hexadecimal(digits) {
+        println!(rt; "not hexadecimal")?;
+        return Ok(());
+    }
     match hex::decode(rt.alloc(), digits) {
         Ok(bytes) => listing::list(rt, bytes.as_slice()),
-        Err(FromHexError::OutOfMemory) => Err(FromHexError::OutOfMemory.into()),
-        Err(_) => {
-            println!(rt; "not hexadecimal")?;
-            Ok(())
-        }
+        // The digits are judged, so what is left is want of memory.
+        Err(_) => Err(AllocError.into()),
     }
+}
+
+// Whether a text is digits alone, two to a byte.
+fn is_hexadecimal(text: &str) -> bool {
+    text.len() % 2 == 0 && text.bytes().all(|byte| byte.is_ascii_hexdigit())
 }
 
 /// Follows the script on standard input.

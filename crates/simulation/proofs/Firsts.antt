@@ -1,10 +1,10 @@
--- The law of the earliest code: the definition meets it.
-use Rattle.std.proofs.Common.{◌≡◌, ℕ, Bool, true, false, List, length, nat_lt, Some, None, cond, refl, ap, ◌∙◌, sym, arith, ltb-true, ltb-false}
+-- The law of the earliest code: the definition meets it, and what it says of an answer settles the answer.
+use Rattle.std.proofs.Common.{◌≡◌, ℕ, ◌<◌, Bool, true, false, List, length, nat_lt, Option, Some, None, cond, refl, ap, ◌∙◌, sym, arith, ltb-true, ltb-false}
 use Rattle.std.specs.List.{position_or_len}
 use Rattle.std.proofs.lemmas.Bool.{both_ways}
 use Rattle.std.proofs.lemmas.List.Sums.{passes_at_first, fails_before_first}
 use Rattle.gates.specs.Kinds.{differ}
-use Rattle.simulation.specs.Earliest.{earliest, Tells}
+use Rattle.simulation.specs.Earliest.{earliest, FirstApart, Tells}
 
 differ_same : (x : Bool) → differ x x ≡ false
 differ_same true = refl
@@ -36,3 +36,20 @@ module _ (f g : ℕ → Bool) (codes : List ℕ) where
 
   pub earliest_tells : Tells codes f g (earliest codes f g)
   earliest_tells = by_test (nat_lt first (length codes)) refl
+
+  -- an answer that the law fits is one alone
+  same_place : (j k : ℕ) → FirstApart codes f g j → FirstApart codes f g k → j ≡ k
+  same_place j k t u =
+      let left : j < k → ⊥ = λ h. t.apart (u.before j h) in
+      let right : k < j → ⊥ = λ h. u.apart (t.before k h) in
+      omega (arith, left, right)
+
+  told_alike : (r s : Option ℕ) → Tells codes f g r → Tells codes f g s → r ≡ s
+  told_alike (Some j) (Some k) t u = ap Some (same_place j k t u)
+  told_alike (Some j) None t u = absurd (t.apart (u j t.inside))
+  told_alike None (Some k) t u = absurd (u.apart (t k u.inside))
+  told_alike None None t u = refl
+
+  -- what the law says of an answer settles it
+  pub tells_is : (r : Option ℕ) → Tells codes f g r → r ≡ earliest codes f g
+  tells_is r t = told_alike r (earliest codes f g) t earliest_tells

@@ -53,5 +53,10 @@ pub(super) fn mark_diagram(nodes: &[Node], marks: &mut [bool], e: Edge)
 pub(super) fn count_marks(marks: &[bool]) -> usize
     ensures { result ≡ count_by (λ marked. marked) marks.now }
 {
-    marks.iter().filter(|&&marked| marked).count()
+    // A loop, and not `filter` and `count`: with these, counting took half as long again.
+    let mut count = 0;
+    for &marked in marks {
+        count += usize::from(marked);
+    }
+    count
 }

@@ -10,5 +10,5 @@ returns-in-Undecided g c =
     let second = g.Q.Engine.gives c.args.second.now in
     record {
       asked = chain_asked c.requires x.asked y.asked;
-      given = inr (x.given, subst (λ (q : Question). second q c.ask-in-Undecided.result) (asked_same c.requires x.asked) y.given);
+      given = inr (x.given, subst (λ (q : Question). second q c.ask-in-Undecided.result) (asked_same c.requires x.asked.merged x.asked.sizes) y.given);
     }

@@ -16,6 +16,6 @@ returns-in-Undecided g c =
       asked = ladder_asked low c.requires x.asked y.asked;
       given = inr (
         subst (λ (l : Query). below (asked_of c.args.graph.now l c.args.workspace.now) Undecided) low x.given,
-        subst (λ (q : Question). below q c.ask-in-Undecided.result) (asked_same c.requires x.asked) y.given,
+        subst (λ (q : Question). below q c.ask-in-Undecided.result) (asked_same c.requires x.asked.merged x.asked.sizes) y.given,
       );
     }
