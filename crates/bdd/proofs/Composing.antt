@@ -11,7 +11,7 @@ use Rattle.bdd.specs.Size.{Fn, parts, distinct, table, all_parts, In, Only}
 use Rattle.bdd.specs.Laws.{Held, TooMany}
 use Rattle.bdd.specs.Contents.{nodes_of}
 use Rattle.bdd.specs.Composing.{Is, Among, NoRoom, Denotes, Extends, Still, choice}
-use Rattle.bdd.proofs.Values.{eval_kept, eval_flip, flip_half, grown_on}
+use Rattle.bdd.proofs.Values.{eval_kept, eval_flip, flip_half, grown_self, grown_on}
 use Rattle.bdd.proofs.Growth.{part_kept}
 use Rattle.bdd.proofs.Pigeons.{Known, known_left, known_right}
 use Rattle.bdd.proofs.Counting.{part_input, held_kept}
@@ -78,6 +78,9 @@ room_before S t u limit good x none vs φs asc vars held steps =
     (λ ge. let p = x.parts i ge h in let a = steps p.step p.is_step in among_held ms vs i p.step φs a.0 a.1 p.part)
     (cases_lt i (length ns)))
     steps
+
+pub extends_self : (S : ((ℕ → Bool) → Bool) → Type 0) (t : Table) → Extends S t t
+extends_self S t = record { limit_is = refl; grown = grown_self (nodes_of t); parts = λ i a b. absurd (omega arith) }
 
 pub extends_more : (S S' : ((ℕ → Bool) → Bool) → Type 0) (t u : Table) → ((φ : (ℕ → Bool) → Bool) → S φ → S' φ) → Extends S t u → Extends S' t u
 extends_more S S' t u up x = record {

@@ -1,5 +1,5 @@
 -- The steps of a conjunction.
-use Rattle.std.proofs.Common.{◌≡◌, ℕ, zero, suc, ◌+◌, ◌/◌, ◌<◌, ◌≤◌, min, true, false, ◌&&◌, ◌⊎◌, List, length, sym, ap, ◌∙◌, ap₂, ⊎_elim, arith}
+use Rattle.std.proofs.Common.{◌≡◌, ℕ, zero, suc, ◌+◌, ◌/◌, ◌<◌, ◌≤◌, min, true, false, ◌&&◌, ◌⊎◌, List, length, sym, refl, ap, ◌∙◌, ap₂, ⊎_elim, arith}
 use Rattle.std.proofs.Math.Bool.{and_self, and-true, and-false, not-and_self}
 use Rattle.std.proofs.lemmas.Bool.{cases_Bool}
 use Rattle.bdd.specs.declared.store.nodes.Node.{Node}
@@ -7,7 +7,10 @@ use Rattle.bdd.specs.declared.store.Table.{Table}
 use Rattle.bdd.specs.Diagram.{flip, eval, var_at, top, Good, Grown}
 use Rattle.bdd.specs.Steps.{Cofactor, Made, Both}
 use Rattle.bdd.specs.Contents.{Kept, nodes_of}
-use Rattle.bdd.proofs.Values.{eval_false, eval_true, eval_flip, eval_kept, var_kept, grown_on}
+use Rattle.bdd.proofs.Values.{eval_false, eval_true, eval_flip, eval_kept, var_kept, grown_self, grown_on}
+
+pub kept_self : (t : Table) → Kept t t
+kept_self t = record { grown = grown_self (nodes_of t); limit_is = refl; marks_is = refl; images_is = refl }
 
 pub kept_on : (t u w : Table) → Kept t u → Kept u w → Kept t w
 kept_on t u w k l = record { grown = grown_on (nodes_of t) (nodes_of u) (nodes_of w) k.grown l.grown; limit_is = l.limit_is ∙ k.limit_is; marks_is = l.marks_is ∙ k.marks_is; images_is = l.images_is ∙ k.images_is }
