@@ -22,20 +22,12 @@ impl Vertex {
     }
 
     /// Whether the vertex, in its place, stands: whether it is its own survivor.
-    // Each place below 2^15 has a net, so one comparison of nets decides. Without that limit the link's vertex and its
-    // inversion are compared apart, and a full table was built in 4.2 ms instead of 3.6.
+    // Each place below 2^15 has a net, so one comparison of nets decides.
     pub fn stands(self, place: usize) -> bool
         requires { place < 2 ^ 15 }
         ensures { IsTrue result ↔ (self.link.0 ≡ 2 * place) }
     {
         self.link == Net::of(place)
-    }
-
-    /// Whether the vertex has the pair.
-    pub(crate) fn has(self, pair: Pair) -> bool
-        ensures { IsTrue result ↔ ((self.left.0 ≡ pair.low.0) × (self.right.0 ≡ pair.high.0)) }
-    {
-        self.left == pair.low && self.right == pair.high
     }
 
     /// The vertex with the pair in place of its nets.
